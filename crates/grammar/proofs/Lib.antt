@@ -3,3 +3,7 @@ pub mod Logic
 pub mod Words
 pub mod Packing
 pub mod TopDown
+pub mod Readings
+pub mod Stacks
+pub mod Notation
+pub mod Examples
