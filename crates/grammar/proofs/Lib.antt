@@ -7,3 +7,4 @@ pub mod Readings
 pub mod Stacks
 pub mod Notation
 pub mod Examples
+pub mod Slips

@@ -16,22 +16,28 @@ unfoldable pub call : Words → Answer
 unfolding optimize
 call w = optimize w full full full (replicate 1024 0)
 
--- An example: words and the whole answer; a table, packed, and the table that it gives; a table and the number that refuses it
+-- An example: words and the whole answer; words and the table that they give, or their number; the same for a table, packed
 pub data Example : Type 0 where
   whole : Words → Answer → Example
+  makes : Words → Table Bytes → Example
+  numbered : Words → ℕ → Example
   gives : Table Bytes → Table Bytes → Example
   refuses : Table Bytes → ℕ → Example
 
 unfoldable pub found : Example → Answer
 unfolding call
 found (whole w a) = call w
+found (makes w u) = call w
+found (numbered w n) = call w
 found (gives t u) = call (wordsOf t)
 found (refuses t n) = call (wordsOf t)
 
--- what the document says: of a `gives` all but the report
+-- what the document says: of a table all but the report
 unfoldable pub wanted : Example → Answer
 unfolding call
 wanted (whole w a) = a
+wanted (makes w u) = answer full (finished (call w .report) u)
+wanted (numbered w n) = answer full (refused n)
 wanted (gives t u) = answer full (finished (call (wordsOf t) .report) u)
 wanted (refuses t n) = answer full (refused n)
 
