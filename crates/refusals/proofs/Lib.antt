@@ -1,3 +1,5 @@
 -- Laws of the refusals.
 pub mod Fours
-pub mod Trees
+pub mod Piles
+pub mod Tells
+pub mod Tables

@@ -18,11 +18,11 @@ use Rattle.grammar.specs.Rows.{Span, row, strRows, flat}
 use Rattle.grammar.specs.Reading.{Kinds, readTree}
 use Rattle.grammar.proofs.Logic.{and-left, and-right}
 use Rattle.grammar.proofs.Words.{Allowed, StrsAllowed, tree-back, tree-is, tree-allowed}
-use Rattle.rows.specs.Rows.{kindAt, xAt, yAt, sizeAt, shapeOf, At, AtStrs}
+use Rattle.rows.specs.Rows.{kindAt, xAt, yAt, sizeAt, shapeOf, At, AtStrs, Tells}
 use Rattle.rows.specs.declared.Shape.{Shape}
 use Rattle.rows.specs.declared.Shape.the-variants.{Lit, Num, One, Two, Skips}
 use Rattle.rows.proofs.Laws.{headOf, below, flat-root, length-flat, size-pos, Root, root, root-found, at-un, at-left, at-right, at-strs, at-first, at-others}
-use Rattle.rows.proofs.Cells.{lit-shape, fixed-shape, un-shape, bin-shape, skip-shape}
+use Rattle.rows.proofs.Cells.{lit-shape, fixed-shape, un-shape, bin-shape, skip-shape, tells-iff, tells-eqb}
 use Rattle.rows.proofs.Views.{shapeIn, shape-in, as-lit, lit-is}
 use Rattle.refusals.proofs.Fours.{four}
 use Rattle.refusals.specs.Local.{upTo, usesX, usesY, unusedZero, OneFits, TwoFits, SkipFits, Below, RowFits, IsTree}
@@ -450,3 +450,7 @@ module _ (most : ℕ) (w : List ℕ) (small : most ≤ 19) where
         some-row = omega arith;
         last = root a .rows ∙ m;
       }
+
+  pub tree-tells : (n s : ℕ) → length w ≡ n * 4 → ((j : ℕ) → j < n → RowFits most w j) → 0 < n → s ≡ getD w ((n - 1) * 4 + 3) 0 → Tells (eqb s n) (IsTree (upTo most) w)
+  unfolding sizeAt
+  tree-tells n s l f h e = tells-iff (eqb s n) (λ q. tree-of n l f h (sym e ∙ q)) (λ t. e ∙ of-tree n l t .last) (tells-eqb s n)
