@@ -3,3 +3,6 @@ pub mod Fours
 pub mod Piles
 pub mod Tells
 pub mod Tables
+pub mod Texts
+pub mod Apart
+pub mod Highs

@@ -202,3 +202,9 @@ pub fn trees(rules: &[u32], rows: &[u32], most: u32) -> bool
     }
     from == total
 }
+
+// What a check finds: nothing to refuse, or a refusal's number.
+pub enum Verdict {
+    Fine,
+    Refused(u32),
+}
