@@ -12,9 +12,11 @@ use Rattle.grammar.specs.Text.{bytesAt}
 use Rattle.grammar.specs.Table.{Rule, Table, ruleWords, resolveTable}
 use Rattle.grammar.specs.Refusals.{reserved, repeated, names, badNames}
 use Rattle.grammar.proofs.Logic.{eq-sameBytes, sameBytes-eq, none-some, some-eq}
-use Rattle.names.specs.Names.{nameOf}
+use Rattle.names.specs.Names.{nameOf, First, Finds}
+use Rattle.names.specs.declared.Found.{Found}
+use Rattle.names.specs.declared.Found.the-variants.{At, Nothing}
 use Rattle.names.proofs.Finding.{There, there, inside-table, name-is, rule-count}
-use Rattle.refusals.specs.Bytes.{NamesFine}
+use Rattle.refusals.specs.Bytes.{NameFree, NamesFine}
 use Rattle.refusals.proofs.Fours.{neither-left, neither-right}
 
 differ : (x y : Bytes) → (x ≡ y → ⊥) → sameBytes x y ≡ false
@@ -74,18 +76,32 @@ module _ (text : Bytes) where
   unfolding badNames
   names-fine t f =
       ap₂ _||_
-      (not-repeated t (λ i j r s l g k e. f .apart i j l (omega (arith, inside-table t j s k, rule-count t)) (name-is text t i r g ∙ e ∙ sym (name-is text t j s k))))
-      (all-free t (λ i r g. ap (λ (x : Bytes). member x reserved) (sym (name-is text t i r g)) ∙ f .free i (omega (arith, inside-table t i r g, rule-count t))))
+      (not-repeated t (λ i j r s l g k e. f j (omega (arith, inside-table t j s k, rule-count t)) .apart i l (name-is text t i r g ∙ e ∙ sym (name-is text t j s k))))
+      (all-free t (λ i r g. ap (λ (x : Bytes). member x reserved) (sym (name-is text t i r g)) ∙ f i (omega (arith, inside-table t i r g, rule-count t)) .free))
 
   pub fine-names : (t : Table Span) → badNames (resolveTable text t) ≡ false → NamesFine (ruleWords t) text
   unfolding badNames
   fine-names t h =
       let a : repeated (ns t) ≡ false = neither-left (repeated (ns t)) (any (λ x. member x reserved) (ns t)) h in
       let b : any (λ x. member x reserved) (ns t) ≡ false = neither-right (repeated (ns t)) (any (λ x. member x reserved) (ns t)) h in
+      λ j l.
+      let s : There t j = there t j (omega (arith, rule-count t)) in
       record {
-        free = λ i l. let r : There t i = there t i (omega (arith, rule-count t)) in ap (λ (x : Bytes). member x reserved) (name-is text t i (r .rule) (r .is)) ∙ free-all t b i (r .rule) (r .is);
-        apart = λ i j l k e.
+        free = ap (λ (x : Bytes). member x reserved) (name-is text t j (s .rule) (s .is)) ∙ free-all t b j (s .rule) (s .is);
+        apart = λ i k e.
             let r : There t i = there t i (omega (arith, rule-count t)) in
-            let s : There t j = there t j (omega (arith, rule-count t)) in
-            repeated-not t a i j (r .rule) (s .rule) l (r .is) (s .is) (sym (name-is text t i (r .rule) (r .is)) ∙ e ∙ name-is text t j (s .rule) (s .is));
+            repeated-not t a i j (r .rule) (s .rule) k (r .is) (s .is) (sym (name-is text t i (r .rule) (r .is)) ∙ e ∙ name-is text t j (s .rule) (s .is));
       }
+
+-- what a search among the earlier rules tells of a rule's name
+module _ (rules : List ℕ) (text : Bytes) (i : ℕ) (key : Bytes) (same : key ≡ nameOf rules text i) where
+  pub free-not : (f : Found) (j : ℕ) → Finds i rules text key f → f ≡ At j → NameFree rules text i → ⊥
+  free-not f j h e n = let g : First i rules text key j = rw e at h in n .apart j (g .below) (g .same ∙ same)
+
+  pub free-is : (f : Found) → Finds i rules text key f → f ≡ Nothing → member key reserved ≡ false → NameFree rules text i
+  free-is f h e m =
+      let g : (j : ℕ) → j < i → nameOf rules text j ≡ key → ⊥ = rw e at h in
+      record { free = ap (λ (x : Bytes). member x reserved) (sym same) ∙ m; apart = λ j l q. g j l (q ∙ sym same) }
+
+  pub free-reserved : (b : Bool) → b ≡ member key reserved → b ≡ true → NameFree rules text i → ⊥
+  free-reserved b e t n = false≢true (sym (ap (λ (x : Bytes). member x reserved) same ∙ n .free) ∙ sym e ∙ t)

@@ -63,3 +63,14 @@ module _ (p : ℕ → ℕ → ℕ → Bool) where
       let e₁ : suc i * 4 + 1 ≡ suc (suc (suc (suc (i * 4 + 1)))) = omega arith in
       let e₂ : suc i * 4 + 2 ≡ suc (suc (suc (suc (i * 4 + 2)))) = omega arith in
       rw (e₁, e₂, e) (none-pass n w (omega arith) (neither-right (p a b c) (anyFour p w) h) i (omega arith))
+
+  -- a walk over the rows: row i passes; it does not; there are no more
+  module _ (w : List ℕ) (i : ℕ) (so-far : anyFour p w ≡ anyFour p (drop (i * 4) w)) where
+    pub any-found : (r : Bool) → i * 4 + 4 ≤ length w → r ≡ p (getD w (i * 4) 0) (getD w (i * 4 + 1) 0) (getD w (i * 4 + 2) 0) → r ≡ true → true ≡ anyFour p w
+    any-found r h e t = sym (so-far ∙ any-step w i h ∙ ap (λ (b : Bool). b || anyFour p (drop ((i + 1) * 4) w)) (sym e ∙ t))
+
+    pub any-passed : (r : Bool) → i * 4 + 4 ≤ length w → r ≡ p (getD w (i * 4) 0) (getD w (i * 4 + 1) 0) (getD w (i * 4 + 2) 0) → r ≡ false → anyFour p w ≡ anyFour p (drop ((i + 1) * 4) w)
+    any-passed r h e t = so-far ∙ any-step w i h ∙ ap (λ (b : Bool). b || anyFour p (drop ((i + 1) * 4) w)) (sym e ∙ t)
+
+    pub any-done : length w ≤ i * 4 + 3 → false ≡ anyFour p w
+    any-done h = sym (so-far ∙ any-end w i h)

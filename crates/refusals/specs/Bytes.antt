@@ -40,7 +40,11 @@ pub record Indexed (text : Bytes) (marks : List ℕ) : Type 0 where
   pub long : length text ≤ length marks * 64
   pub at : (b : ℕ) → b * 64 < length text → High text (b * 64) (getD marks b 0)
 
+-- rule i's name is not reserved, and no earlier rule has it
+pub record NameFree (rules : List ℕ) (text : Bytes) (i : ℕ) : Type 0 where
+  pub free : member (nameOf rules text i) reserved ≡ false
+  pub apart : (j : ℕ) → j < i → nameOf rules text j ≡ nameOf rules text i → ⊥
+
 -- refusal 5 does not hold: no name is reserved, and no two are equal
-pub record NamesFine (rules : List ℕ) (text : Bytes) : Type 0 where
-  pub free : (i : ℕ) → i < length rules / 4 → member (nameOf rules text i) reserved ≡ false
-  pub apart : (i j : ℕ) → i < j → j < length rules / 4 → nameOf rules text i ≡ nameOf rules text j → ⊥
+abbrev pub NamesFine : List ℕ → Bytes → Type 0
+NamesFine rules text = (i : ℕ) → i < length rules / 4 → NameFree rules text i
