@@ -7,9 +7,11 @@ use native.Mathlib.Decide.{ℕ-discrete, decLt}
 use native.Mathlib.Omega.{arith}
 use borrow.Author.Tests.{lt-ltb, le-ltb, ltb-true, ltb-false}
 use lib.Dec.{ltb}
-use lib.ListN.{length, getD}
+use lib.ListN.{length, getD, set}
+use lib.Seq.{getD-set-same, getD-set-other}
 use Rattle.grammar.specs.Basic.{Bytes, any}
 use Rattle.grammar.specs.Text.{bytesAt}
+use Rattle.grammar.specs.Refusals.{badSpan}
 use Rattle.names.proofs.Marks.{part-cons}
 use Rattle.refusals.specs.Bytes.{High}
 
@@ -67,3 +69,25 @@ module _ (text : Bytes) where
       go : Dec (j ≡ i) → getD text j 0 ≤ 127
       go (yes e) = rw e g
       go (no e) = f j a (omega arith)
+
+  -- one more word of the index
+  pub index-step : (marks : List ℕ) (b r : ℕ) → b < length marks → High text (b * 64) r → ((m : ℕ) → b < m → m * 64 < length text → High text (m * 64) (getD marks m 0))
+      → (m : ℕ) → b ≤ m → m * 64 < length text → High text (m * 64) (getD (set marks b r) m 0)
+  index-step marks b r l g f m a h = go (ℕ-discrete m b)
+    where
+      go : Dec (m ≡ b) → High text (m * 64) (getD (set marks b r) m 0)
+      go (yes e) = rw (e, getD-set-same marks b r 0 l) g
+      go (no e) = rw (getD-set-other marks b m r 0 e) (f m (omega arith) h)
+
+  -- refusal 4 of a span that ends at e: past the text; before the first byte above 127; by the first such byte from its start on
+  module _ (x n e : ℕ) (end : e ≡ x + n) where
+    pub span-out : length text < e → true ≡ badSpan text (x, n)
+    span-out h = let l : length text < x + n = omega arith in rw (lt-ltb (length text) (x + n) l)
+
+    pub span-low : (first : ℕ) → e ≤ length text → e ≤ first → High text 0 first → false ≡ badSpan text (x, n)
+    span-low first h l g = let m : x + n ≤ length text = omega arith in rw (le-ltb (length text) (x + n) m) (sym (before-high x n first g (omega arith)))
+
+    pub span-decides : (y r : ℕ) → e ≤ length text → y ≡ x → High text y r → ltb r e ≡ badSpan text (x, n)
+    span-decides y r h q g =
+        let m : x + n ≤ length text = omega arith in
+        rw (le-ltb (length text) (x + n) m) (ap (ltb r) end ∙ high-decides x n r m (rw q at g))

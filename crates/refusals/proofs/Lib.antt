@@ -6,3 +6,4 @@ pub mod Tables
 pub mod Texts
 pub mod Apart
 pub mod Highs
+pub mod Verdicts

@@ -1,6 +1,7 @@
 -- What a check of a lent table answers: the lowest of refusals 2 to 6 that holds, or that none does and what stands there. Assumes nothing.
 use mathlib.Core.Path.{_≡_}
-use mathlib.Core.Bool.{false, cond}
+use mathlib.Core.Bool.{true, false, cond}
+use mathlib.Core.Logic.{_⊎_}
 use mathlib.Core.List.{List}
 use mathlib.Core.Option.{Option, none, some}
 use Prim.Native.Nat.{ℕ}
@@ -12,6 +13,7 @@ use Rattle.grammar.specs.Reading.{readTable, inputKinds}
 use Rattle.grammar.specs.Refusals.{badCounts, badText, badNames, zeroCounts}
 use Rattle.rows.specs.Rows.{Inside}
 use Rattle.names.specs.Names.{Hashed, Ended}
+use Rattle.refusals.specs.Bytes.{anyFour, zeroRow, NamesFine}
 use Rattle.refusals.specs.declared.Verdict.{Verdict}
 use Rattle.refusals.specs.declared.Verdict.the-variants.{Fine, Refused}
 
@@ -36,6 +38,11 @@ lowest w = cond (badCounts w) 2 (lowestRead (w .text) (readTable inputKinds (w .
 abbrev pub numberOf : Verdict → ℕ
 numberOf Fine = 0
 numberOf (Refused n) = n
+
+-- refusals 5 and 6 over words: the answer of a check that comes after refusals 2 to 4
+abbrev pub NamesChecked : Verdict → List ℕ → List ℕ → Bytes → List ℕ → Type 0
+NamesChecked Fine rules rows text marks = NamesFine rules text × (anyFour zeroRow rows ≡ false) × Hashed rules text marks × Ended rules marks
+NamesChecked (Refused n) rules rows text marks = ((n ≡ 5) × (NamesFine rules text → ⊥)) ⊎ ((n ≡ 6) × NamesFine rules text × (anyFour zeroRow rows ≡ true))
 
 -- what holds of a table that none of them refuses
 pub record Passed (w : Words) (marks : List ℕ) : Type 0 where

@@ -1,15 +1,15 @@
 // Refusals 2 to 6 of a lent table: the lowest that holds, for any words and any text.
 ghost use mathlib.Core.Path.{_≡_};
 ghost use mathlib.Core.Bool.{_||_};
-ghost use Prim.Native.Nat.{ℕ, _+_, _-_, _*_, _/_, _%_, _≤_, _<_};
+ghost use Prim.Native.Nat.{ℕ, _+_, _-_, _*_, _/_, _%_, _^_, _≤_, _<_};
 ghost use lib.ListN.{length, take, drop};
 ghost use lib.Dec.{eqb};
 ghost use Rattle.grammar.specs.Refusals.{badCounts, badSpan};
 ghost use Rattle.rows.specs.Rows.{Tells, kindAt};
-ghost use Rattle.names.specs.Names.{Hashed};
+ghost use Rattle.names.specs.Names.{rowsBefore, NamesInside, Hashed};
 ghost use Rattle.refusals.specs.Local.{upTo, usesX, usesY, unusedZero, OneFits, TwoFits, SkipFits, RowFits, IsTree, IsTable};
 ghost use Rattle.refusals.specs.Bytes.{anyFour, badName, badRow, zeroRow, High, Indexed, NameFree, NamesFine};
-ghost use Rattle.refusals.specs.Check.{lent, Checked};
+ghost use Rattle.refusals.specs.Check.{lent, NamesChecked, Checked};
 use names::Found;
 use rows::Lookup;
 use rows::Shape;
@@ -434,4 +434,42 @@ pub fn zero_counts(rows: &[u32]) -> bool
         i += 1;
     }
     false
+}
+
+// ---- the check
+
+// Refusals 5 and 6 of a table that can be read and whose names and literals are right. The marks then hold the names' hashes and the rules' ends.
+fn check_names(rules: &[u32], rows: &[u32], text: &[u8], marks: &mut [u32]) -> Verdict
+    requires { ⌜ NamesInside (now rules) (length (now text)) ⌝ }
+    requires { ⌜ (length (now rules) / 4 * 4 ≤ length (now marks)) × (rowsBefore (now rules) (length (now rules) / 4) < 2 ^ 32) ⌝ }
+    ensures { λ v. ⌜ NamesChecked v (now (rules .entry)) (now (rows .entry)) (now (text .entry)) (now (marks .exit)) ⌝ }
+{
+    names::hash_names(rules, text, marks);
+    if !names_fine(rules, text, marks) {
+        return Verdict::Refused(5);
+    }
+    if zero_counts(rows) {
+        return Verdict::Refused(6);
+    }
+    names::mark_ends(rules, marks);
+    Verdict::Fine
+}
+
+// Refusals 2 to 6: the lowest that holds. Where none does, a table stands there, and the marks hold its names' hashes and its rules' ends.
+// The rows are read four times and the text twice; a literal costs at most 64 bytes more. The worst input has 256 names as long as the
+// text, which are hashed once each: 16,777,216 steps.
+pub fn check(rules: &[u32], rows: &[u32], text: &[u8], marks: &mut [u32]) -> Verdict
+    requires { ⌜ 1024 ≤ length (now marks) ⌝ }
+    ensures { λ v. ⌜ Checked v (lent (now (rules .entry)) (now (rows .entry)) (now (text .entry))) (now (marks .exit)) ⌝ }
+{
+    if bad_counts(rules, rows, text) {
+        return Verdict::Refused(2);
+    }
+    if !trees(rules, rows, 18) {
+        return Verdict::Refused(3);
+    }
+    if bad_text(rules, rows, text, marks) {
+        return Verdict::Refused(4);
+    }
+    check_names(rules, rows, text, marks)
 }

@@ -1,3 +1,5 @@
+use borrow.Author.Tests.{lt-ltb, le-ltb, eq-eqb, ne-eqb}
+use Rattle.refusals.specs.Bytes.{badRow}
 use borrow.Author.Needs.{needs}
 use Rattle.refusals.proofs.bad_row.Statement.{statement}
 use Rattle.refusals.proofs.bad_row.Tie as tie
@@ -5,25 +7,24 @@ use Rattle.refusals.proofs.bad_row.Reads as reads
 use Rattle.refusals.proofs.bad_row.Lts as lts
 use Rattle.refusals.proofs.bad_span.Reads as bad-span-reads
 
--- src/lib.rt:328:9
 returns : tie.Need-returns
-returns c = ?
+unfolding badRow
+returns c = simp (lt-ltb _ _ (c .if1 .taken))
 
--- src/lib.rt:332:13
 returns-2 : tie.Need-returns-2
-returns-2 c = ?
+unfolding badRow
+returns-2 c = simp (le-ltb _ _ (c .before .before .if1 .left), eq-eqb _ _ (c .before .if2 .taken), lt-ltb _ _ (c .if3 .taken))
 
--- src/lib.rt:334:9
 returns-3 : tie.Need-returns-3
-returns-3 c = ?
+unfolding badRow
+returns-3 c = simp (le-ltb _ _ (c .before .before .if1 .left), eq-eqb _ _ (c .before .if2 .taken), le-ltb _ _ (c .if3 .left))
 
--- src/lib.rt:336:5
 bad-span-requires : tie.Need-bad-span-requires
 bad-span-requires c κs = search needs
 
--- src/lib.rt:322:1
 returns-4 : tie.Need-returns-4
-returns-4 c = ?
+unfolding badRow
+returns-4 c = simp (le-ltb _ _ (c .before .before .if1 .left), ne-eqb _ _ (c .before .if2 .left)) (c .bad-span .ensures)
 
 pub bad-row-spec : {M : Type 1} → statement M
 bad-row-spec = tie.close (tie.spec returns returns-2 returns-3 bad-span-requires returns-4)

@@ -1,3 +1,9 @@
+use mathlib.Core.Path.{_≡_, refl}
+use Prim.Native.Nat.{_+_, _-_, _*_, _/_, _≤_, _<_}
+use native.Mathlib.Omega.{arith}
+use lib.ListN.{length, drop}
+use Rattle.refusals.specs.Bytes.{anyFour, badRow}
+use Rattle.refusals.proofs.Fours.{any-found, any-passed, any-done}
 use Rattle.refusals.proofs.bad_rows.Statement.{statement}
 use Rattle.refusals.proofs.bad_rows.Tie as tie
 use Rattle.refusals.proofs.bad_rows.Reads as reads
@@ -5,74 +11,58 @@ use Rattle.refusals.proofs.bad_rows.Lts as lts
 use Rattle.refusals.proofs.bad_row.Reads as bad-row-reads
 
 abbrev Inv-loop : tie.InvT-loop
-Inv-loop rows text marks first count i₀ i = ?
+Inv-loop rows text marks first count i₀ i = (i ≤ length rows / 4) × (anyFour (badRow text) rows ≡ anyFour (badRow text) (drop (i * 4) rows))
 
 abbrev μ-loop : tie.MeasureT-loop
-μ-loop rows text marks first count i₀ i = ?
+μ-loop rows text marks first count i₀ i = length rows / 4 - i
 
--- src/lib.rt:347:5
 loop-holds : tie.Need-loop-holds Inv-loop μ-loop
-loop-holds c = ?
+loop-holds c = (omega arith, refl)
 
--- src/lib.rt:348:18
 mul-at : tie.Need-mul-at Inv-loop μ-loop
-mul-at c = ?
+mul-at c = omega arith
 
--- src/lib.rt:349:40
 mul-bad-row : tie.Need-mul-bad-row Inv-loop μ-loop
-mul-bad-row c = ?
+mul-bad-row c = omega arith
 
--- src/lib.rt:349:40
 shared-slice-read-bad-row : tie.Need-shared-slice-read-bad-row Inv-loop μ-loop
-shared-slice-read-bad-row c = ?
+shared-slice-read-bad-row c = omega arith
 
--- src/lib.rt:349:55
 add-bad-row : tie.Need-add-bad-row Inv-loop μ-loop
-add-bad-row c = ?
+add-bad-row c = omega arith
 
--- src/lib.rt:349:50
 mul-bad-row-2 : tie.Need-mul-bad-row-2 Inv-loop μ-loop
-mul-bad-row-2 c = ?
+mul-bad-row-2 c = omega arith
 
--- src/lib.rt:349:50
 shared-slice-read-bad-row-2 : tie.Need-shared-slice-read-bad-row-2 Inv-loop μ-loop
-shared-slice-read-bad-row-2 c = ?
+shared-slice-read-bad-row-2 c = omega arith
 
--- src/lib.rt:349:69
 add-bad-row-2 : tie.Need-add-bad-row-2 Inv-loop μ-loop
-add-bad-row-2 c = ?
+add-bad-row-2 c = omega arith
 
--- src/lib.rt:349:64
 mul-bad-row-3 : tie.Need-mul-bad-row-3 Inv-loop μ-loop
-mul-bad-row-3 c = ?
+mul-bad-row-3 c = omega arith
 
--- src/lib.rt:349:64
 shared-slice-read-bad-row-3 : tie.Need-shared-slice-read-bad-row-3 Inv-loop μ-loop
-shared-slice-read-bad-row-3 c = ?
+shared-slice-read-bad-row-3 c = omega arith
 
--- src/lib.rt:349:12
 bad-row-requires : tie.Need-bad-row-requires Inv-loop μ-loop
-bad-row-requires c κs = ?
+bad-row-requires c κs = c .before .before .before .before .before .before .before .before .pre
 
--- src/lib.rt:350:13
 returns : tie.Need-returns Inv-loop μ-loop
-returns c = ?
+returns c = let l = c .before .before .before .before .before .before .loop in any-found (badRow (c .before .before .before .before .before .before .before .before .before .before .args .text .now)) _ (l .i) (l .inv .1) (c .before .bad-row .result) (omega arith) (c .before .bad-row .ensures) (c .if1 .taken)
 
--- src/lib.rt:352:9
 add-i : tie.Need-add-i Inv-loop μ-loop
-add-i c = ?
+add-i c = omega arith
 
--- src/lib.rt:347:5
 loop-less : tie.Need-loop-less Inv-loop μ-loop
-loop-less c = ?
+loop-less c = omega arith
 
--- src/lib.rt:347:5
 loop-again : tie.Need-loop-again Inv-loop μ-loop
-loop-again c = ?
+loop-again c = let l = c .before .before .before .before .before .before .loop in (omega arith, any-passed (badRow (c .before .before .before .before .before .before .before .before .before .before .args .text .now)) _ (l .i) (l .inv .1) (c .before .bad-row .result) (omega arith) (c .before .bad-row .ensures) (c .if1 .left))
 
--- src/lib.rt:340:1
 returns-2 : tie.Need-returns-2 Inv-loop μ-loop
-returns-2 c = ?
+returns-2 c = let l = c .before .loop in any-done (badRow (c .before .before .before .before .before .args .text .now)) _ (l .i) (l .inv .1) (omega arith)
 
 pub bad-rows-spec : {M : Type 1} → statement M
 bad-rows-spec =

@@ -1,3 +1,9 @@
+use mathlib.Core.Path.{_≡_, refl}
+use Prim.Native.Nat.{_+_, _-_, _*_, _/_, _≤_, _<_}
+use native.Mathlib.Omega.{arith}
+use lib.ListN.{length, drop}
+use Rattle.refusals.specs.Bytes.{anyFour, badName}
+use Rattle.refusals.proofs.Fours.{any-found, any-passed, any-done}
 use Rattle.refusals.proofs.bad_rules.Statement.{statement}
 use Rattle.refusals.proofs.bad_rules.Tie as tie
 use Rattle.refusals.proofs.bad_rules.Reads as reads
@@ -5,62 +11,49 @@ use Rattle.refusals.proofs.bad_rules.Lts as lts
 use Rattle.refusals.proofs.bad_span.Reads as bad-span-reads
 
 abbrev Inv-loop : tie.InvT-loop
-Inv-loop rules text marks first count i₀ i = ?
+Inv-loop rules text marks first count i₀ i = (i ≤ length rules / 4) × (anyFour (badName text) rules ≡ anyFour (badName text) (drop (i * 4) rules))
 
 abbrev μ-loop : tie.MeasureT-loop
-μ-loop rules text marks first count i₀ i = ?
+μ-loop rules text marks first count i₀ i = length rules / 4 - i
 
--- src/lib.rt:311:5
 loop-holds : tie.Need-loop-holds Inv-loop μ-loop
-loop-holds c = ?
+loop-holds c = (omega arith, refl)
 
--- src/lib.rt:312:18
 mul-at : tie.Need-mul-at Inv-loop μ-loop
-mul-at c = ?
+mul-at c = omega arith
 
--- src/lib.rt:313:41
 mul-bad-span : tie.Need-mul-bad-span Inv-loop μ-loop
-mul-bad-span c = ?
+mul-bad-span c = omega arith
 
--- src/lib.rt:313:41
 shared-slice-read-bad-span : tie.Need-shared-slice-read-bad-span Inv-loop μ-loop
-shared-slice-read-bad-span c = ?
+shared-slice-read-bad-span c = omega arith
 
--- src/lib.rt:313:58
 add-bad-span : tie.Need-add-bad-span Inv-loop μ-loop
-add-bad-span c = ?
+add-bad-span c = omega arith
 
--- src/lib.rt:313:52
 mul-bad-span-2 : tie.Need-mul-bad-span-2 Inv-loop μ-loop
-mul-bad-span-2 c = ?
+mul-bad-span-2 c = omega arith
 
--- src/lib.rt:313:52
 shared-slice-read-bad-span-2 : tie.Need-shared-slice-read-bad-span-2 Inv-loop μ-loop
-shared-slice-read-bad-span-2 c = ?
+shared-slice-read-bad-span-2 c = omega arith
 
--- src/lib.rt:313:12
 bad-span-requires : tie.Need-bad-span-requires Inv-loop μ-loop
-bad-span-requires c κs = ?
+bad-span-requires c κs = c .before .before .before .before .before .before .before .pre
 
--- src/lib.rt:314:13
 returns : tie.Need-returns Inv-loop μ-loop
-returns c = ?
+returns c = let l = c .before .before .before .before .before .loop in any-found (badName (c .before .before .before .before .before .before .before .before .before .args .text .now)) _ (l .i) (l .inv .1) (c .before .bad-span .result) (omega arith) (c .before .bad-span .ensures) (c .if1 .taken)
 
--- src/lib.rt:316:9
 add-i : tie.Need-add-i Inv-loop μ-loop
-add-i c = ?
+add-i c = omega arith
 
--- src/lib.rt:311:5
 loop-less : tie.Need-loop-less Inv-loop μ-loop
-loop-less c = ?
+loop-less c = omega arith
 
--- src/lib.rt:311:5
 loop-again : tie.Need-loop-again Inv-loop μ-loop
-loop-again c = ?
+loop-again c = let l = c .before .before .before .before .before .loop in (omega arith, any-passed (badName (c .before .before .before .before .before .before .before .before .before .args .text .now)) _ (l .i) (l .inv .1) (c .before .bad-span .result) (omega arith) (c .before .bad-span .ensures) (c .if1 .left))
 
--- src/lib.rt:304:1
 returns-2 : tie.Need-returns-2 Inv-loop μ-loop
-returns-2 c = ?
+returns-2 c = let l = c .before .loop in any-done (badName (c .before .before .before .before .before .args .text .now)) _ (l .i) (l .inv .1) (omega arith)
 
 pub bad-rules-spec : {M : Type 1} → statement M
 bad-rules-spec =

@@ -1,3 +1,6 @@
+use mathlib.Core.Path.{_≡_, ap₂}
+use Prim.Native.Nat.{_+_}
+use Rattle.refusals.proofs.Highs.{span-out, span-low, span-decides}
 use borrow.Author.Needs.{needs}
 use Rattle.refusals.proofs.bad_span.Statement.{statement}
 use Rattle.refusals.proofs.bad_span.Tie as tie
@@ -6,37 +9,33 @@ use Rattle.refusals.proofs.bad_span.Lts as lts
 use Rattle.refusals.proofs.high_from.Reads as high-from-reads
 use Rattle.rows.proofs.wide.Reads as wide-reads
 
--- src/lib.rt:293:15
+-- the end of the span
+ends : (c : tie.After-wide2) → c .before .wide .result + c .wide2 .result ≡ c .before .before .before .before .args .x + c .before .before .before .before .args .n
+ends c = ap₂ _+_ (c .before .wide .ensures) (c .wide2 .ensures)
+
 wide-requires : tie.Need-wide-requires
 wide-requires c κs = search needs
 
--- src/lib.rt:293:25
 wide-requires-2 : tie.Need-wide-requires-2
 wide-requires-2 c κs = search needs
 
--- src/lib.rt:293:15
 add-end : tie.Need-add-end
 add-end c = search needs
 
--- src/lib.rt:295:9
 returns : tie.Need-returns
-returns c = ?
+returns c = span-out (c .before .before .before .before .before .args .text .now) _ _ _ (ends (c .before)) (c .if1 .taken)
 
--- src/lib.rt:298:9
 returns-2 : tie.Need-returns-2
-returns-2 c = ?
+returns-2 c = span-low _ _ _ _ (ends (c .before .before)) _ (c .before .if1 .left) (c .if2 .taken) (c .before .before .before .before .before .before .pre .0)
 
--- src/lib.rt:300:28
 wide-requires-3 : tie.Need-wide-requires-3
 wide-requires-3 c κs = search needs
 
--- src/lib.rt:300:5
 high-from-requires : tie.Need-high-from-requires
 high-from-requires c κs = search needs
 
--- src/lib.rt:288:1
 returns-3 : tie.Need-returns-3
-returns-3 c = ?
+returns-3 c = span-decides _ _ _ _ (ends (c .before .before .before .before)) _ _ (c .before .before .before .if1 .left) (c .before .wide3 .ensures) (c .high-from .ensures)
 
 pub bad-span-spec : {M : Type 1} → statement M
 bad-span-spec =

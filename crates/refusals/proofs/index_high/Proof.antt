@@ -1,3 +1,9 @@
+use mathlib.Core.Path.{_≡_, refl}
+use Prim.Native.Nat.{ℕ, _+_, _-_, _*_, _≤_, _<_}
+use native.Mathlib.Omega.{arith}
+use lib.ListN.{length, getD, length-set}
+use Rattle.refusals.specs.Bytes.{High, Indexed}
+use Rattle.refusals.proofs.Highs.{high-end, index-step}
 use Rattle.refusals.proofs.index_high.Statement.{statement}
 use Rattle.refusals.proofs.index_high.Tie as tie
 use Rattle.refusals.proofs.index_high.Reads as reads
@@ -5,62 +11,62 @@ use Rattle.refusals.proofs.index_high.Lts as lts
 use Rattle.refusals.proofs.next_high.Reads as next-high-reads
 
 abbrev Inv-loop : tie.InvT-loop
-Inv-loop text marks₀ stop₀ next₀ b₀ marks stop next b = ?
+Inv-loop text marks₀ stop₀ next₀ b₀ marks stop next b =
+    (length marks ≡ length marks₀) × (stop ≤ length text) × (stop ≤ b * 64) × (b * 64 ≤ stop + 63) × High text stop next
+    × ((m : ℕ) → b ≤ m → m * 64 < length text → High text (m * 64) (getD marks m 0))
 
 abbrev μ-loop : tie.MeasureT-loop
-μ-loop text marks₀ stop₀ next₀ b₀ marks stop next b = ?
+μ-loop text marks₀ stop₀ next₀ b₀ marks stop next b = b
 
--- src/lib.rt:263:18
 add-b : tie.Need-add-b Inv-loop μ-loop
-add-b c = ?
+add-b c = omega arith
 
--- src/lib.rt:264:5
 loop-holds : tie.Need-loop-holds Inv-loop μ-loop
-loop-holds c = ?
+loop-holds c = (refl, omega arith, omega arith, omega arith, high-end _, λ m a l. absurd (omega arith))
 
--- src/lib.rt:265:9
 sub-b : tie.Need-sub-b Inv-loop μ-loop
-sub-b c = ?
+sub-b c = omega arith
 
--- src/lib.rt:266:32
 mul-next-high : tie.Need-mul-next-high Inv-loop μ-loop
-mul-next-high c = ?
+mul-next-high c = omega arith
 
--- src/lib.rt:266:9
 next-high-requires : tie.Need-next-high-requires Inv-loop μ-loop
-next-high-requires c κs = ?
+next-high-requires c κs = ((omega arith, omega arith), c .before .loop .inv .4)
 
--- src/lib.rt:267:20
 cast-marks : tie.Need-cast-marks Inv-loop μ-loop
-cast-marks c = ?
+cast-marks c = omega (arith, c .next-high .ensures .within)
 
--- src/lib.rt:267:9
 mul-marks : tie.Need-mul-marks Inv-loop μ-loop
-mul-marks c = ?
+mul-marks c = omega arith
 
--- src/lib.rt:267:9
 slice-write-marks : tie.Need-slice-write-marks Inv-loop μ-loop
-slice-write-marks c = ?
+slice-write-marks c = omega arith
 
--- src/lib.rt:268:16
 mul-stop : tie.Need-mul-stop Inv-loop μ-loop
-mul-stop c = ?
+mul-stop c = omega arith
 
--- src/lib.rt:264:5
 loop-less : tie.Need-loop-less Inv-loop μ-loop
-loop-less c = ?
+loop-less c = omega arith
 
--- src/lib.rt:264:5
 loop-again : tie.Need-loop-again Inv-loop μ-loop
-loop-again c = ?
+loop-again c =
+    let l = c .before .before .loop in (
+      simp length-set (l .inv .0),
+      omega arith,
+      omega arith,
+      omega arith,
+      c .next-high .ensures,
+      index-step _ (l .marks) (l .b - 1) (c .next-high .result) (omega arith) (c .next-high .ensures) (λ m a h. l .inv .5 m (omega arith) h),
+    )
 
--- src/lib.rt:257:1
 same-length : tie.Need-same-length Inv-loop μ-loop
-same-length c = ?
+same-length c = c .before .loop .inv .0
 
--- src/lib.rt:257:1
 returns : tie.Need-returns Inv-loop μ-loop
-returns c = ?
+returns c =
+    let l = c .before .loop in
+    let z : l .stop ≡ 0 = omega arith in
+    (rw z at (l .inv .4), record { long = omega arith; at = λ b h. l .inv .5 b (omega arith) h })
 
 pub index-high-spec : {M : Type 1} → statement M
 index-high-spec =
