@@ -28,11 +28,11 @@ hash-start t x n h =
     let e : n - 0 ≡ n = omega arith in
     rw (add-zero, e) (ap (λ (m : ℕ). hashFrom (m % 2 ^ 32) (bytesAt t (x, n))) (sym (length-part t x n h)))
 
-pub hash-step : (t : Bytes) (x n i h : ℕ) → i < n → x + n ≤ length t → hashFrom h (bytesAt t (x + i, n - i)) ≡ hashFrom ((h * 31 + getD t (x + i) 0) % 2 ^ 32) (bytesAt t (x + (i + 1), n - (i + 1)))
+pub hash-step : (t : Bytes) (x n i h : ℕ) → i < n → x + n ≤ length t → hashFrom h (bytesAt t (x + i, n - i)) ≡ hashFrom ((h * 16777619 + getD t (x + i) 0) % 2 ^ 32) (bytesAt t (x + (i + 1), n - (i + 1)))
 hash-step t x n i h l f =
     let e : n - i ≡ suc (n - (i + 1)) = omega arith in
     let a : x + i + 1 ≡ x + (i + 1) = omega arith in
-    rw e (ap (hashFrom h) (part-cons t (x + i) (n - (i + 1)) (omega arith)) ∙ ap (λ (m : ℕ). hashFrom ((h * 31 + getD t (x + i) 0) % 2 ^ 32) (bytesAt t (m, n - (i + 1)))) a)
+    rw e (ap (hashFrom h) (part-cons t (x + i) (n - (i + 1)) (omega arith)) ∙ ap (λ (m : ℕ). hashFrom ((h * 16777619 + getD t (x + i) 0) % 2 ^ 32) (bytesAt t (m, n - (i + 1)))) a)
 
 pub hash-end : (t : Bytes) (x n i h : ℕ) → n ≤ i → hashFrom h (bytesAt t (x + i, n - i)) ≡ h
 hash-end t x n i h l = let e : n - i ≡ 0 = omega arith in rw e

@@ -7,3 +7,4 @@ pub mod Texts
 pub mod Apart
 pub mod Highs
 pub mod Verdicts
+pub mod Answers

@@ -42,12 +42,12 @@ module _ (rules rows : List ℕ) (text : Bytes) where
   abbrev w : Words
   w = lent rules rows text
 
-  refused : (n : ℕ) (marks : List ℕ) → n ≡ lowest w → Checked (Refused n) w marks
-  refused n marks e = record { number = e; fine = refused-not-fine n }
+  refused : (n : ℕ) (marks : List ℕ) → 2 ≤ n → n ≡ lowest w → Checked (Refused n) w marks
+  refused n marks l e = record { number = e; refused = λ m q. let z : n ≡ m = cc in omega arith; fine = refused-not-fine n }
 
   pub refused-2 : (marks : List ℕ) → badCounts w ≡ true → Checked (Refused 2) w marks
   unfolding lowest
-  refused-2 marks c = refused 2 marks (rw c)
+  refused-2 marks c = refused 2 marks (omega arith) (rw c)
 
   -- what counts that are not refused say
   pub record Counts : Type 0 where
@@ -80,7 +80,7 @@ module _ (rules rows : List ℕ) (text : Bytes) where
     unfolding lowest lowestRead
     refused-3 marks f =
         let e : readTable inputKinds rules rows ≡ none = not-some (readTable inputKinds rules rows) (λ t r. f (record { table = t; read = r })) in
-        refused 3 marks (rw (c, e))
+        refused 3 marks (omega arith) (rw (c, e))
 
     module _ (t : IsTable (upTo 18) rules rows) where
       of : TableOf inputKinds rules rows (t .table)
@@ -106,7 +106,7 @@ module _ (rules rows : List ℕ) (text : Bytes) where
       unfolding lowest lowestRead
       refused-4 marks b e h =
           let q : badText text (t .table) ≡ true = bad-is ∙ sym e ∙ h in
-          refused 4 marks (rw (c, t .read, q))
+          refused 4 marks (omega arith) (rw (c, t .read, q))
 
       module _ (b : Bool) (e : b ≡ (anyFour (badName text) rules || anyFour (badRow text) rows)) (h : b ≡ false) where
         clean : (anyFour (badName text) rules || anyFour (badRow text) rows) ≡ false
@@ -144,6 +144,7 @@ module _ (rules rows : List ℕ) (text : Bytes) where
         checked Fine marks k =
             record {
               number = lowest-none (k .0) (k .1) ∙ sym lowest-is;
+              refused = λ n q. refused-not-fine n (sym q);
               fine = λ _. record {
                 table = t .table;
                 read = t .read;
@@ -156,5 +157,5 @@ module _ (rules rows : List ℕ) (text : Bytes) where
                 ended = k .3;
               };
             }
-        checked (Refused n) marks (inl k) = refused n marks (lowest-names n (k .0) (k .1) ∙ sym lowest-is)
-        checked (Refused n) marks (inr k) = refused n marks (lowest-zero n (k .0) (k .1) (k .2) ∙ sym lowest-is)
+        checked (Refused n) marks (inl k) = refused n marks (omega (arith, k .0)) (lowest-names n (k .0) (k .1) ∙ sym lowest-is)
+        checked (Refused n) marks (inr k) = refused n marks (omega (arith, k .0)) (lowest-zero n (k .0) (k .1) (k .2) ∙ sym lowest-is)

@@ -4,7 +4,7 @@ use mathlib.Core.Bool.{true, false, cond}
 use mathlib.Core.Logic.{_⊎_}
 use mathlib.Core.List.{List}
 use mathlib.Core.Option.{Option, none, some}
-use Prim.Native.Nat.{ℕ}
+use Prim.Native.Nat.{ℕ, _≤_}
 use lib.ListN.{length}
 use Rattle.grammar.specs.Basic.{Bytes}
 use Rattle.grammar.specs.Rows.{Span}
@@ -56,7 +56,8 @@ pub record Passed (w : Words) (marks : List ℕ) : Type 0 where
   pub hashed : Hashed (w .rules) (w .text) marks
   pub ended : Ended (w .rules) marks
 
--- the answer: its number is the lowest that holds, and a fine table stands there
+-- the answer: its number is the lowest that holds, no refusal has a number below 2, and a fine table stands there
 pub record Checked (v : Verdict) (w : Words) (marks : List ℕ) : Type 0 where
   pub number : numberOf v ≡ lowest w
+  pub refused : (n : ℕ) → v ≡ Refused n → 2 ≤ n
   pub fine : v ≡ Fine → Passed w marks

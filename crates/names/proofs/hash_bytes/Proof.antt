@@ -49,7 +49,7 @@ loop-again c =
     let l = c .before .before .before .loop in (
       omega arith,
       omega arith,
-      ap (λ (b : ℕ). hashFrom ((l .h * 31 + b) % 2 ^ 32) (bytesAt (a .text .now) (a .x + (l .i + 1), a .n - (l .i + 1)))) (c .byte .ensures .0)
+      ap (λ (b : ℕ). hashFrom ((l .h * 16777619 + b) % 2 ^ 32) (bytesAt (a .text .now) (a .x + (l .i + 1), a .n - (l .i + 1)))) (c .byte .ensures .0)
           ∙ sym (hash-step (a .text .now) (a .x) (a .n) (l .i) (l .h) (c .before .before .loop-test .taken) (c .before .before .before .before .before .pre))
           ∙ l .inv .2,
     )
