@@ -1,20 +1,20 @@
 -- What a search by name finds is what `find` finds in the table, and where a rule's tree stands. Assumes nothing.
-use mathlib.Core.Path.{_≡_, refl, sym, ap, subst, _∙_}
-use mathlib.Core.Bool.{Bool, true, false, cond}
+use mathlib.Core.Path.{_≡_, refl, sym, ap, _∙_}
+use mathlib.Core.Bool.{Bool, true, false}
 use mathlib.Core.List.{List, [], _∷_, _++_, append-assoc}
 use mathlib.Core.Option.{Option, none, some}
-use Prim.Native.Nat.{ℕ, zero, suc, _+_, _-_, _*_, _/_, _≤_, _<_}
+use Prim.Native.Nat.{ℕ, zero, suc, _+_, _-_, _*_, _/_, _<_}
 use native.Mathlib.Omega.{arith}
 use lib.ListN.{length, getD, getElem?, length-append}
 use Rattle.grammar.specs.Basic.{Bytes, sameBytes}
-use Rattle.grammar.specs.Tree.{Expr, E, size}
+use Rattle.grammar.specs.Tree.{E, size}
 use Rattle.grammar.specs.Rows.{Span, flat}
 use Rattle.grammar.specs.Text.{bytesAt, resolve}
 use Rattle.grammar.specs.Table.{Rule, Table, ruleWords, rowWords, rowCount, resolveTable, find}
 use Rattle.grammar.proofs.Logic.{none-some, some-eq, eq-sameBytes, sameBytes-eq}
 use Rattle.rows.specs.Rows as rows
 use Rattle.rows.proofs.Laws.{length-flat, size-pos}
-use Rattle.names.specs.Names.{nameSpan, nameOf, rowsBefore, First, Finds}
+use Rattle.names.specs.Names.{nameOf, rowsBefore, First, Finds}
 use Rattle.names.specs.declared.Found.{Found}
 use Rattle.names.specs.declared.Found.the-variants.{At, Nothing}
 

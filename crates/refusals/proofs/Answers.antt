@@ -1,5 +1,5 @@
 -- What the whole call answers after a check: its refusal, or the rest of the work on the table that stands there. Assumes nothing.
-use mathlib.Core.Path.{_≡_, refl, sym, ap, _∙_}
+use mathlib.Core.Path.{_≡_, refl, sym, ap}
 use mathlib.Core.Bool.{Bool, true, false, cond}
 use mathlib.Core.List.{List}
 use mathlib.Core.Option.{Option, none, some}
@@ -12,7 +12,7 @@ use Rattle.grammar.specs.Reading.{readTable, inputKinds}
 use Rattle.grammar.specs.Refusals.{badCounts, badText, badNames, zeroCounts, meets}
 use Rattle.grammar.specs.Optimize.{Result, refused, refuseIf, stages, finish, ofTable, ofRead, ofWords}
 use Rattle.refusals.specs.Check.{lowestNamed, lowestRead, lowest, Passed, Checked}
-use Rattle.refusals.specs.declared.Verdict.the-variants.{Fine, Refused}
+use Rattle.refusals.specs.declared.Verdict.the-variants.{Refused}
 
 -- two of them in order
 in-order : (a : Bool) (m k n : ℕ) (r : Result) → n ≡ cond a m k → (n ≡ k → r ≡ refused n) → refuseIf a m r ≡ refused n

@@ -1,17 +1,15 @@
 -- Rows that are right one by one are a pile of trees, and one tree's rows are right: so the local test is exact. Assumes nothing.
 use mathlib.Core.Path.{_≡_, refl, sym, ap, ap₂, subst, _∙_}
-use mathlib.Core.Bool.{Bool, true, false, _&&_, _||_, cond}
+use mathlib.Core.Bool.{Bool, true, false, _&&_, _||_}
 use mathlib.Core.List.{List, [], _∷_, _++_, append-assoc, append-nil}
-use mathlib.Core.Option.{some}
-use Prim.Native.Nat.{ℕ, zero, suc, _+_, _-_, _*_, _/_, _%_, _≤_, _<_}
-use native.Mathlib.Nat.{add-zero}
+use Prim.Native.Nat.{ℕ, zero, suc, _+_, _-_, _*_, _≤_, _<_}
 use native.Mathlib.Numerals.{add-one}
 use native.Mathlib.Decide.{ℕ-discrete, decLe}
 use native.Mathlib.Omega.{arith}
 use borrow.Author.Tests.{le-leb, leb-true, eqb-true}
 use lib.Dec.{eqb, leb}
-use lib.ListN.{length, getD, take, drop, length-append, length-take, take-append-drop}
-use lib.Seq.{drop-cons, take-add, take-at, take-take, take-all, length-take-le}
+use lib.ListN.{length, getD, take, drop, length-append, take-append-drop}
+use lib.Seq.{take-add, take-at, take-take, take-all, length-take-le}
 use Rattle.grammar.specs.Tree as tree
 use Rattle.grammar.specs.Tree.{Head, Str, Fixed, Un, Bin, Expr, lit, fixed, skip, un, bin, litKind, fixedHead, unHead, binKind, size}
 use Rattle.grammar.specs.Rows.{Span, row, strRows, flat}
@@ -20,12 +18,12 @@ use Rattle.grammar.proofs.Logic.{and-left, and-right}
 use Rattle.grammar.proofs.Words.{Allowed, StrsAllowed, tree-back, tree-is, tree-allowed}
 use Rattle.rows.specs.Rows.{kindAt, xAt, yAt, sizeAt, shapeOf, At, AtStrs, Tells}
 use Rattle.rows.specs.declared.Shape.{Shape}
-use Rattle.rows.specs.declared.Shape.the-variants.{Lit, Num, One, Two, Skips}
-use Rattle.rows.proofs.Laws.{headOf, below, flat-root, length-flat, size-pos, Root, root, root-found, at-un, at-left, at-right, at-strs, at-first, at-others}
+use Rattle.rows.specs.declared.Shape.the-variants.{Lit}
+use Rattle.rows.proofs.Laws.{headOf, below, flat-root, length-flat, size-pos, root, root-found, at-un, at-left, at-right, at-strs, at-first, at-others}
 use Rattle.rows.proofs.Cells.{lit-shape, fixed-shape, un-shape, bin-shape, skip-shape, tells-iff, tells-eqb}
 use Rattle.rows.proofs.Views.{shapeIn, shape-in, as-lit, lit-is}
 use Rattle.refusals.proofs.Fours.{four}
-use Rattle.refusals.specs.Local.{upTo, usesX, usesY, unusedZero, OneFits, TwoFits, SkipFits, Below, RowFits, IsTree}
+use Rattle.refusals.specs.Local.{upTo, unusedZero, OneFits, TwoFits, SkipFits, Below, RowFits, IsTree}
 
 -- ---- the head of a row that is right is that of a node
 

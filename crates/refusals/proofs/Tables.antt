@@ -1,19 +1,17 @@
 -- Rules one by one: a table is a rule whose rows are one tree, and the table of the rest. Assumes nothing.
 use mathlib.Core.Path.{_≡_, refl, sym, ap, ap₂, subst, _∙_}
-use mathlib.Core.Bool.{Bool, true, false}
-use mathlib.Core.List.{List, [], _∷_, _++_}
-use mathlib.Core.Option.{Option, none, some}
-use Prim.Native.Nat.{ℕ, _+_, _-_, _*_, _/_, _≤_, _<_}
+use mathlib.Core.Bool.{Bool, true}
+use mathlib.Core.List.{List, [], _∷_}
+use Prim.Native.Nat.{ℕ, _+_, _-_, _*_, _≤_, _<_}
 use native.Mathlib.Omega.{arith}
 use borrow.Author.Tests.{le-leb, leb-true, eq-eqb}
 use lib.Dec.{eqb, leb}
 use lib.ListN.{length, getD, take, drop, length-take, length-drop, drop-of-length-le}
 use lib.Seq.{drop-drop}
-use Rattle.grammar.specs.Basic.{_>>=_, test}
+use Rattle.grammar.specs.Basic.{test}
 use Rattle.grammar.specs.Tree.{Expr, size}
-use Rattle.grammar.specs.Rows.{Span, flat}
-use Rattle.grammar.specs.Table.{Rule, Table}
-use Rattle.grammar.specs.Reading.{Kinds, noWords, readTree, readTable, withRule}
+use Rattle.grammar.specs.Rows.{Span}
+use Rattle.grammar.specs.Reading.{Kinds, noWords, readTree, readTable}
 use Rattle.grammar.proofs.Logic.{bind-case, none-some, test-true, eqb-eq}
 use Rattle.grammar.proofs.Words.{tree-is, flat-length}
 use Rattle.rows.specs.Rows.{Tells}

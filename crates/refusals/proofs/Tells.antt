@@ -1,13 +1,13 @@
 -- What the tests of one row tell. Assumes nothing.
-use mathlib.Core.Path.{_≡_, refl, sym, ap, ap₂, _∙_}
-use mathlib.Core.Bool.{false≢true, Bool, true, false, _&&_, _||_}
+use mathlib.Core.Path.{_≡_, sym, ap, ap₂, _∙_}
+use mathlib.Core.Bool.{false≢true, Bool, true, false}
 use mathlib.Core.List.{List}
 use Prim.Native.Nat.{ℕ, _+_, _-_, _*_, _≤_, _<_}
 use native.Mathlib.Decide.{ℕ-discrete}
 use native.Mathlib.Omega.{arith}
 use lib.Dec.{eqb}
 use lib.ListN.{getD}
-use Rattle.rows.specs.Rows.{kindAt, xAt, yAt, sizeAt, shapeOf, Tells}
+use Rattle.rows.specs.Rows.{kindAt, xAt, sizeAt, shapeOf, Tells}
 use Rattle.rows.specs.declared.Shape.{Shape}
 use Rattle.rows.proofs.Laws.{Found}
 use Rattle.rows.proofs.Cells.{tells-iff, tells-eqb}

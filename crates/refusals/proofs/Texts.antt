@@ -9,11 +9,11 @@ use lib.Dec.{eqb, ltb}
 use lib.ListN.{length, getD}
 use Rattle.grammar.specs.Basic.{Bytes, any}
 use Rattle.grammar.specs.Tree as tree
-use Rattle.grammar.specs.Tree.{Fixed, Un, Bin, Expr, lit, fixed, skip, un, bin, litKind, fixedHead, unHead, binKind, size, lits, anyNode}
+use Rattle.grammar.specs.Tree.{Un, Bin, Expr, lit, fixed, skip, un, bin, litKind, fixedHead, unHead, binKind, lits, anyNode}
 use Rattle.grammar.specs.Rows.{Span, row, strRows, flat}
 use Rattle.grammar.specs.Text.{resolve}
-use Rattle.grammar.specs.Table.{Rule, Table, ruleWords, rowWords, resolveTable}
-use Rattle.grammar.specs.Refusals.{badSpan, badRange, badRule, badText, zeroUn, zeroCount, zeroCounts}
+use Rattle.grammar.specs.Table.{Table, ruleWords, rowWords, resolveTable}
+use Rattle.grammar.specs.Refusals.{badSpan, badRange, badText, zeroUn, zeroCount, zeroCounts}
 use Rattle.rows.specs.Rows.{kindAt, xAt, yAt, shapeOf, pickShape, Inside}
 use Rattle.rows.specs.declared.Shape.the-variants.{Lit, Num, One, Two, Skips}
 use Rattle.names.specs.Names.{NamesInside}

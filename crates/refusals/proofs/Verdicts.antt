@@ -1,26 +1,25 @@
 -- From the tests over words to the number that the definitions give, and to what holds of a table that is not refused. Assumes nothing.
 use mathlib.Core.Path.{_≡_, refl, sym, ap, ap₂, subst, _∙_}
-use mathlib.Core.Bool.{false≢true, Bool, true, false, _||_, not, cond}
+use mathlib.Core.Bool.{Bool, true, false, _||_, not}
 use mathlib.Core.List.{List}
-use mathlib.Core.Logic.{_⊎_, inl, inr}
+use mathlib.Core.Logic.{inl, inr}
 use mathlib.Core.Option.{Option, none, some}
-use Prim.Native.Nat.{ℕ, _+_, _*_, _/_, _%_, _^_, _≤_, _<_}
+use Prim.Native.Nat.{ℕ, _*_, _/_, _%_, _^_, _≤_, _<_}
 use native.Mathlib.Omega.{arith}
 use borrow.Author.Tests.{not-false, eqb-true, ltb-false}
 use lib.Dec.{eqb, ltb}
 use lib.ListN.{length}
 use Rattle.grammar.specs.Basic.{Bytes}
-use Rattle.grammar.specs.Rows.{Span}
-use Rattle.grammar.specs.Table.{Table, Words, ruleWords, rowWords, rowCount, resolveTable}
+use Rattle.grammar.specs.Table.{Table, Words, rowCount, resolveTable}
 use Rattle.grammar.specs.Reading.{readTable, inputKinds}
 use Rattle.grammar.specs.Refusals.{badCounts, badText, badNames, zeroCounts}
 use Rattle.grammar.proofs.Words.{TableOf, table-is}
 use Rattle.rows.specs.Rows.{Inside}
-use Rattle.names.specs.Names.{rowsBefore, NamesInside, Hashed, Ended}
+use Rattle.names.specs.Names.{rowsBefore, NamesInside}
 use Rattle.names.proofs.Finding.{rule-count, rows-before-all, length-rows}
 use Rattle.refusals.specs.Local.{upTo, IsTable}
 use Rattle.refusals.specs.Bytes.{anyFour, badName, badRow, zeroRow, NamesFine}
-use Rattle.refusals.specs.Check.{lent, lowestNamed, lowestRead, lowest, numberOf, NamesChecked, Passed, Checked}
+use Rattle.refusals.specs.Check.{lent, lowestNamed, lowestRead, lowest, NamesChecked, Checked}
 use Rattle.refusals.specs.declared.Verdict.{Verdict}
 use Rattle.refusals.specs.declared.Verdict.the-variants.{Fine, Refused}
 use Rattle.refusals.proofs.Fours.{neither-left, neither-right}

@@ -2,9 +2,6 @@ use borrow.Author.Needs.{needs}
 use Rattle.names.proofs.Marks.{or-yes, or-no, or-last}
 use Rattle.names.proofs.changes_stack.Statement.{statement}
 use Rattle.names.proofs.changes_stack.Tie as tie
-use Rattle.names.proofs.changes_stack.Reads as reads
-use Rattle.names.proofs.changes_stack.Lts as lts
-use Rattle.names.proofs.is_name.Reads as is-name-reads
 
 -- src/lib.rt:150:28
 slice-aggregate-is-name : tie.Need-slice-aggregate-is-name

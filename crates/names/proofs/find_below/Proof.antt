@@ -1,7 +1,7 @@
 -- The invariant: no rule passed has the name. Assumes nothing.
-use mathlib.Core.Path.{_≡_, sym, _∙_}
+use mathlib.Core.Path.{_≡_}
 use mathlib.Core.Logic.{⊎-elim}
-use Prim.Native.Nat.{ℕ, _+_, _-_, _*_, _≤_, _<_}
+use Prim.Native.Nat.{ℕ, _-_, _≤_, _<_}
 use borrow.Author.Needs.{needs}
 use borrow.Author.Count.{below-none, below-more}
 use native.Mathlib.Omega.{arith}
@@ -11,9 +11,6 @@ use Rattle.names.specs.Names.{nameOf}
 use Rattle.names.proofs.Marks.{hashes-differ}
 use Rattle.names.proofs.find_below.Statement.{statement}
 use Rattle.names.proofs.find_below.Tie as tie
-use Rattle.names.proofs.find_below.Reads as reads
-use Rattle.names.proofs.find_below.Lts as lts
-use Rattle.names.proofs.has_name.Reads as has-name-reads
 
 abbrev Inv-loop : tie.InvT-loop
 Inv-loop rules text marks m hash text2 x n i₀ i = (i ≤ m) × ((j : ℕ) → j < i → nameOf rules text j ≡ bytesAt text2 (x, n) → ⊥)

@@ -1,14 +1,9 @@
-use mathlib.Core.Path.{_≡_, _∙_, sym}
-use Prim.Native.Nat.{ℕ}
+use mathlib.Core.Path.{_∙_, sym}
 use borrow.Author.Needs.{needs}
 use native.Mathlib.Omega.{arith}
 use Rattle.names.proofs.Marks.{parts-differ}
 use Rattle.names.proofs.has_name.Statement.{statement}
 use Rattle.names.proofs.has_name.Tie as tie
-use Rattle.names.proofs.has_name.Reads as reads
-use Rattle.names.proofs.has_name.Lts as lts
-use Rattle.rows.proofs.same_bytes.Reads as same-bytes-reads
-use Rattle.rows.proofs.wide.Reads as wide-reads
 
 -- src/lib.rt:80:14
 mul-at : tie.Need-mul-at

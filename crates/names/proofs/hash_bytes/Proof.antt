@@ -3,15 +3,11 @@ use mathlib.Core.Path.{_≡_, sym, _∙_, ap}
 use Prim.Native.Nat.{ℕ, _+_, _-_, _*_, _%_, _^_, _≤_, _<_}
 use borrow.Author.Needs.{needs}
 use native.Mathlib.Omega.{arith}
-use lib.ListN.{length, getD}
 use Rattle.grammar.specs.Text.{bytesAt}
 use Rattle.names.specs.Names.{hashFrom, hashOf}
 use Rattle.names.proofs.Marks.{hash-start, hash-step, hash-end}
 use Rattle.names.proofs.hash_bytes.Statement.{statement}
 use Rattle.names.proofs.hash_bytes.Tie as tie
-use Rattle.names.proofs.hash_bytes.Reads as reads
-use Rattle.names.proofs.hash_bytes.Lts as lts
-use Rattle.names.proofs.byte.Reads as byte-reads
 
 abbrev Inv-loop : tie.InvT-loop
 Inv-loop text x n h₀ i₀ h i = (i ≤ n) × (h < 2 ^ 32) × (hashFrom h (bytesAt text (x + i, n - i)) ≡ hashOf (bytesAt text (x, n)))

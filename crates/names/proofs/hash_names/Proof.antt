@@ -1,19 +1,15 @@
 -- The invariant: the marks of the rules passed hold their names' hashes. Assumes nothing.
 use mathlib.Core.Path.{_≡_, refl, sym, _∙_, ap₂}
-use Prim.Native.Nat.{ℕ, _+_, _-_, _*_, _/_, _≤_, _<_}
+use Prim.Native.Nat.{ℕ, _-_, _*_, _/_, _≤_}
 use borrow.Author.Needs.{needs}
 use native.Mathlib.Nat.{add-zero}
 use native.Mathlib.Omega.{arith}
-use lib.ListN.{length, getD, length-set}
+use lib.ListN.{length, length-set}
 use Rattle.grammar.specs.Text.{bytesAt}
 use Rattle.names.specs.Names.{nameOf, hashOf, marked}
 use Rattle.names.proofs.Marks.{marked-step}
 use Rattle.names.proofs.hash_names.Statement.{statement}
 use Rattle.names.proofs.hash_names.Tie as tie
-use Rattle.names.proofs.hash_names.Reads as reads
-use Rattle.names.proofs.hash_names.Lts as lts
-use Rattle.names.proofs.hash_bytes.Reads as hash-bytes-reads
-use Rattle.rows.proofs.wide.Reads as wide-reads
 
 abbrev Inv-loop : tie.InvT-loop
 Inv-loop rules text marks₀ count i₀ marks i =

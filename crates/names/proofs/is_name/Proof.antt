@@ -1,4 +1,4 @@
-use mathlib.Core.Path.{_≡_, _∙_, sym, subst}
+use mathlib.Core.Path.{_≡_, subst}
 use mathlib.Core.Bool.{false}
 use mathlib.Core.List.{List}
 use Prim.Native.Nat.{ℕ}
@@ -8,9 +8,6 @@ use Rattle.rows.specs.Rows.{Tells}
 use Rattle.names.proofs.Marks.{tells-same, part-whole, part-differ}
 use Rattle.names.proofs.is_name.Statement.{statement}
 use Rattle.names.proofs.is_name.Tie as tie
-use Rattle.names.proofs.is_name.Reads as reads
-use Rattle.names.proofs.is_name.Lts as lts
-use Rattle.rows.proofs.same_bytes.Reads as same-bytes-reads
 
 -- src/lib.rt:132:9
 returns : tie.Need-returns

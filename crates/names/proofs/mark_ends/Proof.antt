@@ -1,16 +1,13 @@
 -- The invariant: the marks of the rules passed hold their ends, and the sum is the rows of those rules. Assumes nothing.
-use mathlib.Core.Path.{_≡_, refl, sym, _∙_, ap}
-use Prim.Native.Nat.{ℕ, suc, _+_, _-_, _*_, _/_, _^_, _≤_, _<_}
-use borrow.Author.Needs.{needs}
+use mathlib.Core.Path.{_≡_, refl}
+use Prim.Native.Nat.{suc, _+_, _-_, _/_, _≤_}
 use native.Mathlib.Numerals.{add-one}
 use native.Mathlib.Omega.{arith}
-use lib.ListN.{length, getD, length-set}
+use lib.ListN.{length, length-set}
 use Rattle.names.specs.Names.{rowsBefore, marked}
 use Rattle.names.proofs.Marks.{before-grows, before-step, marked-step}
 use Rattle.names.proofs.mark_ends.Statement.{statement}
 use Rattle.names.proofs.mark_ends.Tie as tie
-use Rattle.names.proofs.mark_ends.Reads as reads
-use Rattle.names.proofs.mark_ends.Lts as lts
 
 abbrev Inv-loop : tie.InvT-loop
 Inv-loop rules marks₀ count end₀ i₀ marks end i =

@@ -2,10 +2,6 @@ use borrow.Author.Needs.{needs}
 use Rattle.names.proofs.Marks.{or-yes, or-no}
 use Rattle.names.proofs.reserved.Statement.{statement}
 use Rattle.names.proofs.reserved.Tie as tie
-use Rattle.names.proofs.reserved.Reads as reads
-use Rattle.names.proofs.reserved.Lts as lts
-use Rattle.names.proofs.changes_stack.Reads as changes-stack-reads
-use Rattle.names.proofs.is_any.Reads as is-any-reads
 
 -- src/lib.rt:161:8
 is-any-requires : tie.Need-is-any-requires

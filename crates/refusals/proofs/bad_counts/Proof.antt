@@ -1,8 +1,6 @@
 use borrow.Author.Tests.{lt-ltb, le-ltb, eq-eqb, ne-eqb}
 use Rattle.refusals.proofs.bad_counts.Statement.{statement}
 use Rattle.refusals.proofs.bad_counts.Tie as tie
-use Rattle.refusals.proofs.bad_counts.Reads as reads
-use Rattle.refusals.proofs.bad_counts.Lts as lts
 
 returns : tie.Need-returns
 returns c = simp (ne-eqb _ _ (c .if1 .taken))

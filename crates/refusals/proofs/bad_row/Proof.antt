@@ -3,9 +3,6 @@ use Rattle.refusals.specs.Bytes.{badRow}
 use borrow.Author.Needs.{needs}
 use Rattle.refusals.proofs.bad_row.Statement.{statement}
 use Rattle.refusals.proofs.bad_row.Tie as tie
-use Rattle.refusals.proofs.bad_row.Reads as reads
-use Rattle.refusals.proofs.bad_row.Lts as lts
-use Rattle.refusals.proofs.bad_span.Reads as bad-span-reads
 
 returns : tie.Need-returns
 unfolding badRow

@@ -1,14 +1,11 @@
 use mathlib.Core.Path.{_≡_, refl}
-use Prim.Native.Nat.{_+_, _-_, _*_, _/_, _≤_, _<_}
+use Prim.Native.Nat.{_-_, _*_, _/_, _≤_}
 use native.Mathlib.Omega.{arith}
 use lib.ListN.{length, drop}
 use Rattle.refusals.specs.Bytes.{anyFour, badRow}
 use Rattle.refusals.proofs.Fours.{any-found, any-passed, any-done}
 use Rattle.refusals.proofs.bad_rows.Statement.{statement}
 use Rattle.refusals.proofs.bad_rows.Tie as tie
-use Rattle.refusals.proofs.bad_rows.Reads as reads
-use Rattle.refusals.proofs.bad_rows.Lts as lts
-use Rattle.refusals.proofs.bad_row.Reads as bad-row-reads
 
 abbrev Inv-loop : tie.InvT-loop
 Inv-loop rows text marks first count i₀ i = (i ≤ length rows / 4) × (anyFour (badRow text) rows ≡ anyFour (badRow text) (drop (i * 4) rows))

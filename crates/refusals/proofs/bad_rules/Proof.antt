@@ -1,14 +1,11 @@
 use mathlib.Core.Path.{_≡_, refl}
-use Prim.Native.Nat.{_+_, _-_, _*_, _/_, _≤_, _<_}
+use Prim.Native.Nat.{_-_, _*_, _/_, _≤_}
 use native.Mathlib.Omega.{arith}
 use lib.ListN.{length, drop}
 use Rattle.refusals.specs.Bytes.{anyFour, badName}
 use Rattle.refusals.proofs.Fours.{any-found, any-passed, any-done}
 use Rattle.refusals.proofs.bad_rules.Statement.{statement}
 use Rattle.refusals.proofs.bad_rules.Tie as tie
-use Rattle.refusals.proofs.bad_rules.Reads as reads
-use Rattle.refusals.proofs.bad_rules.Lts as lts
-use Rattle.refusals.proofs.bad_span.Reads as bad-span-reads
 
 abbrev Inv-loop : tie.InvT-loop
 Inv-loop rules text marks first count i₀ i = (i ≤ length rules / 4) × (anyFour (badName text) rules ≡ anyFour (badName text) (drop (i * 4) rules))

@@ -4,10 +4,6 @@ use Rattle.refusals.proofs.Highs.{span-out, span-low, span-decides}
 use borrow.Author.Needs.{needs}
 use Rattle.refusals.proofs.bad_span.Statement.{statement}
 use Rattle.refusals.proofs.bad_span.Tie as tie
-use Rattle.refusals.proofs.bad_span.Reads as reads
-use Rattle.refusals.proofs.bad_span.Lts as lts
-use Rattle.refusals.proofs.high_from.Reads as high-from-reads
-use Rattle.rows.proofs.wide.Reads as wide-reads
 
 -- the end of the span
 ends : (c : tie.After-wide2) → c .before .wide .result + c .wide2 .result ≡ c .before .before .before .before .args .x + c .before .before .before .before .args .n

@@ -2,11 +2,6 @@ use Rattle.names.proofs.Marks.{or-yes, or-no}
 use borrow.Author.Needs.{needs}
 use Rattle.refusals.proofs.bad_text.Statement.{statement}
 use Rattle.refusals.proofs.bad_text.Tie as tie
-use Rattle.refusals.proofs.bad_text.Reads as reads
-use Rattle.refusals.proofs.bad_text.Lts as lts
-use Rattle.refusals.proofs.bad_rows.Reads as bad-rows-reads
-use Rattle.refusals.proofs.bad_rules.Reads as bad-rules-reads
-use Rattle.refusals.proofs.index_high.Reads as index-high-reads
 
 index-high-requires : tie.Need-index-high-requires
 index-high-requires c κs = search needs

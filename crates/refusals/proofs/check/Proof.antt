@@ -1,4 +1,4 @@
-use mathlib.Core.Path.{_≡_, sym, _∙_}
+use mathlib.Core.Path.{sym, _∙_}
 use borrow.Author.Tests.{not-true, not-false}
 use native.Mathlib.Omega.{arith}
 use Rattle.rows.proofs.Cells.{tells-yes, tells-no}
@@ -6,12 +6,6 @@ use Rattle.refusals.proofs.Verdicts.{counts, refused-2, refused-3, refu
 use borrow.Author.Needs.{needs}
 use Rattle.refusals.proofs.check.Statement.{statement}
 use Rattle.refusals.proofs.check.Tie as tie
-use Rattle.refusals.proofs.check.Reads as reads
-use Rattle.refusals.proofs.check.Lts as lts
-use Rattle.refusals.proofs.bad_counts.Reads as bad-counts-reads
-use Rattle.refusals.proofs.bad_text.Reads as bad-text-reads
-use Rattle.refusals.proofs.check_names.Reads as check-names-reads
-use Rattle.refusals.proofs.trees.Reads as trees-reads
 
 bad-counts-requires : tie.Need-bad-counts-requires
 bad-counts-requires c κs = search needs

@@ -1,4 +1,4 @@
-use mathlib.Core.Path.{_≡_, refl, sym, subst, _∙_}
+use mathlib.Core.Path.{refl, sym, subst, _∙_}
 use mathlib.Core.Logic.{inl, inr}
 use borrow.Author.Tests.{not-true, not-false}
 use Rattle.rows.proofs.Cells.{tells-yes, tells-no}
@@ -7,12 +7,6 @@ use Rattle.names.proofs.Marks.{hashed, hashed-ends, ended}
 use borrow.Author.Needs.{needs}
 use Rattle.refusals.proofs.check_names.Statement.{statement}
 use Rattle.refusals.proofs.check_names.Tie as tie
-use Rattle.refusals.proofs.check_names.Reads as reads
-use Rattle.refusals.proofs.check_names.Lts as lts
-use Rattle.names.proofs.hash_names.Reads as hash-names-reads
-use Rattle.names.proofs.mark_ends.Reads as mark-ends-reads
-use Rattle.refusals.proofs.names_fine.Reads as names-fine-reads
-use Rattle.refusals.proofs.zero_counts.Reads as zero-counts-reads
 
 hash-names-requires : tie.Need-hash-names-requires
 hash-names-requires c κs = search needs

@@ -3,10 +3,6 @@ use native.Mathlib.Omega.{arith}
 use borrow.Author.Needs.{needs}
 use Rattle.refusals.proofs.high_from.Statement.{statement}
 use Rattle.refusals.proofs.high_from.Tie as tie
-use Rattle.refusals.proofs.high_from.Reads as reads
-use Rattle.refusals.proofs.high_from.Lts as lts
-use Rattle.refusals.proofs.next_high.Reads as next-high-reads
-use Rattle.rows.proofs.wide.Reads as wide-reads
 
 add-b : tie.Need-add-b
 add-b c = search needs

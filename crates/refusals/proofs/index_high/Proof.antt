@@ -2,13 +2,10 @@ use mathlib.Core.Path.{_≡_, refl}
 use Prim.Native.Nat.{ℕ, _+_, _-_, _*_, _≤_, _<_}
 use native.Mathlib.Omega.{arith}
 use lib.ListN.{length, getD, length-set}
-use Rattle.refusals.specs.Bytes.{High, Indexed}
+use Rattle.refusals.specs.Bytes.{High}
 use Rattle.refusals.proofs.Highs.{high-end, index-step}
 use Rattle.refusals.proofs.index_high.Statement.{statement}
 use Rattle.refusals.proofs.index_high.Tie as tie
-use Rattle.refusals.proofs.index_high.Reads as reads
-use Rattle.refusals.proofs.index_high.Lts as lts
-use Rattle.refusals.proofs.next_high.Reads as next-high-reads
 
 abbrev Inv-loop : tie.InvT-loop
 Inv-loop text marks₀ stop₀ next₀ b₀ marks stop next b =

@@ -7,11 +7,6 @@ use Rattle.refusals.proofs.Apart.{free-not, free-is, free-reserved}
 use borrow.Author.Needs.{needs}
 use Rattle.refusals.proofs.name_free.Statement.{statement}
 use Rattle.refusals.proofs.name_free.Tie as tie
-use Rattle.refusals.proofs.name_free.Reads as reads
-use Rattle.refusals.proofs.name_free.Lts as lts
-use Rattle.names.proofs.find_below.Reads as find-below-reads
-use Rattle.names.proofs.reserved.Reads as reserved-reads
-use Rattle.rows.proofs.wide.Reads as wide-reads
 
 -- the bytes that were read are the rule's name
 name : (c : tie.After-wide2) → let a = c .before .before .before .before .before .before .before .args in bytesAt (a .text .now) (c .before .before .wide .result, c .wide2 .result) ≡ nameOf (a .rules .now) (a .text .now) (a .i)

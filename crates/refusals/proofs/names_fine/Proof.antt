@@ -1,4 +1,4 @@
-use Prim.Native.Nat.{ℕ, _+_, _-_, _/_, _≤_, _<_}
+use Prim.Native.Nat.{ℕ, _-_, _/_, _≤_, _<_}
 use borrow.Author.Count.{below-none, below-more}
 use borrow.Author.Tests.{not-true, not-false}
 use native.Mathlib.Omega.{arith}
@@ -7,9 +7,6 @@ use Rattle.rows.proofs.Cells.{tells-yes, tells-no}
 use Rattle.refusals.specs.Bytes.{NameFree}
 use Rattle.refusals.proofs.names_fine.Statement.{statement}
 use Rattle.refusals.proofs.names_fine.Tie as tie
-use Rattle.refusals.proofs.names_fine.Reads as reads
-use Rattle.refusals.proofs.names_fine.Lts as lts
-use Rattle.refusals.proofs.name_free.Reads as name-free-reads
 
 abbrev Inv-loop : tie.InvT-loop
 Inv-loop rules text marks count i₀ i = (i ≤ length rules / 4) × ((j : ℕ) → j < i → NameFree rules text j)

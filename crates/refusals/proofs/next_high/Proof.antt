@@ -4,8 +4,6 @@ use lib.ListN.{getD}
 use Rattle.refusals.proofs.Highs.{high-found, high-passed, one-low}
 use Rattle.refusals.proofs.next_high.Statement.{statement}
 use Rattle.refusals.proofs.next_high.Tie as tie
-use Rattle.refusals.proofs.next_high.Reads as reads
-use Rattle.refusals.proofs.next_high.Lts as lts
 
 abbrev Inv-loop : tie.InvT-loop
 Inv-loop text p stop other i₀ i = (p ≤ i) × (i ≤ stop) × ((j : ℕ) → p ≤ j → j < i → getD text j 0 ≤ 127)

@@ -4,9 +4,6 @@ use Rattle.refusals.proofs.Tells.{one-tells}
 use borrow.Author.Needs.{needs}
 use Rattle.refusals.proofs.one_fits.Statement.{statement}
 use Rattle.refusals.proofs.one_fits.Tie as tie
-use Rattle.refusals.proofs.one_fits.Reads as reads
-use Rattle.refusals.proofs.one_fits.Lts as lts
-use Rattle.rows.proofs.wide.Reads as wide-reads
 
 returns : tie.Need-returns
 returns c = search needs

@@ -1,19 +1,14 @@
-use mathlib.Core.Path.{_≡_, sym, _∙_}
-use Prim.Native.Nat.{ℕ, _+_, _-_, _*_, _/_, _≤_, _<_}
+use Prim.Native.Nat.{ℕ, _-_, _/_, _≤_, _<_}
 use borrow.Author.Needs.{needs}
 use borrow.Author.Count.{below-none, below-more}
 use borrow.Author.Tests.{not-true, not-false}
 use native.Mathlib.Omega.{arith}
-use lib.ListN.{length, getD}
+use lib.ListN.{length}
 use Rattle.rows.proofs.Cells.{tells-yes, tells-no}
 use Rattle.refusals.specs.Local.{RowFits}
 use Rattle.refusals.proofs.Piles.{of-tree, tree-tells}
 use Rattle.refusals.proofs.one_tree.Statement.{statement}
 use Rattle.refusals.proofs.one_tree.Tie as tie
-use Rattle.refusals.proofs.one_tree.Reads as reads
-use Rattle.refusals.proofs.one_tree.Lts as lts
-use Rattle.refusals.proofs.row_fits.Reads as row-fits-reads
-use Rattle.rows.proofs.wide.Reads as wide-reads
 
 abbrev Inv-loop : tie.InvT-loop
 Inv-loop rows most count i₀ i = (i ≤ length rows / 4) × ((j : ℕ) → j < i → RowFits most rows j)

@@ -1,4 +1,4 @@
-use mathlib.Core.Path.{_≡_, sym, _∙_}
+use mathlib.Core.Path.{sym, _∙_}
 use lib.Dec.{eqb}
 use borrow.Author.Tests.{not-true, not-false}
 use Rattle.rows.proofs.Laws.{Found, row-found, row-there}
@@ -7,15 +7,6 @@ use Rattle.refusals.proofs.Tells.{kind-no, unused-no, row-tells}
 use borrow.Author.Needs.{needs}
 use Rattle.refusals.proofs.row_fits.Statement.{statement}
 use Rattle.refusals.proofs.row_fits.Tie as tie
-use Rattle.refusals.proofs.row_fits.Reads as reads
-use Rattle.refusals.proofs.row_fits.Lts as lts
-use Rattle.refusals.proofs.one_fits.Reads as one-fits-reads
-use Rattle.refusals.proofs.skip_fits.Reads as skip-fits-reads
-use Rattle.refusals.proofs.two_fits.Reads as two-fits-reads
-use Rattle.refusals.proofs.unused_zero.Reads as unused-zero-reads
-use Rattle.rows.proofs.row_at.Reads as row-at-reads
-use Rattle.rows.proofs.shape_of.Reads as shape-of-reads
-use Rattle.rows.proofs.wide.Reads as wide-reads
 
 -- the row that was read
 found : (m : tie.After-known-told) → let k = m .before .k .given in let a = m .before .before .before .before .before .args in Found (a .rows .now) (a .i) (k .0 .0) (k .0 .1 .0) (k .0 .1 .1 .0) (k .0 .1 .1 .1 .0)

@@ -4,9 +4,6 @@ use native.Mathlib.Omega.{arith}
 use borrow.Author.Needs.{needs}
 use Rattle.refusals.proofs.rule_tree.Statement.{statement}
 use Rattle.refusals.proofs.rule_tree.Tie as tie
-use Rattle.refusals.proofs.rule_tree.Reads as reads
-use Rattle.refusals.proofs.rule_tree.Lts as lts
-use Rattle.refusals.proofs.one_tree.Reads as one-tree-reads
 
 mul-a : tie.Need-mul-a
 mul-a c = search needs

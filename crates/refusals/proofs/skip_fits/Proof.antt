@@ -2,9 +2,6 @@ use Rattle.refusals.proofs.Tells.{skip-tells}
 use borrow.Author.Needs.{needs}
 use Rattle.refusals.proofs.skip_fits.Statement.{statement}
 use Rattle.refusals.proofs.skip_fits.Tie as tie
-use Rattle.refusals.proofs.skip_fits.Reads as reads
-use Rattle.refusals.proofs.skip_fits.Lts as lts
-use Rattle.refusals.proofs.strs.Reads as strs-reads
 
 returns : tie.Need-returns
 returns c = search needs

@@ -1,12 +1,10 @@
 use mathlib.Core.Path.{_≡_}
-use Prim.Native.Nat.{ℕ, _+_, _-_, _*_, _≤_, _<_}
+use Prim.Native.Nat.{ℕ, _-_, _≤_, _<_}
 use native.Mathlib.Omega.{arith}
 use Rattle.rows.specs.Rows.{kindAt}
 use Rattle.refusals.proofs.Tells.{one-more}
 use Rattle.refusals.proofs.strs.Statement.{statement}
 use Rattle.refusals.proofs.strs.Tie as tie
-use Rattle.refusals.proofs.strs.Reads as reads
-use Rattle.refusals.proofs.strs.Lts as lts
 
 abbrev Inv-loop : tie.InvT-loop
 Inv-loop rows from to j₀ j = (from ≤ j) × (j ≤ to) × ((m : ℕ) → from ≤ m → m < j → kindAt rows m ≡ 0)

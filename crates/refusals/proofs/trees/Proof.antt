@@ -1,20 +1,16 @@
-use mathlib.Core.Path.{_≡_, refl}
-use Prim.Native.Nat.{ℕ, _+_, _-_, _*_, _/_, _≤_, _<_}
+use mathlib.Core.Path.{refl}
+use Prim.Native.Nat.{_-_, _*_, _/_, _≤_}
 use borrow.Author.Needs.{needs}
 use borrow.Author.Tests.{not-true, not-false}
 use native.Mathlib.Omega.{arith}
 use lib.Dec.{eqb}
-use lib.ListN.{length, getD, take, drop}
+use lib.ListN.{length, take, drop}
 use Rattle.rows.specs.Rows.{Tells}
 use Rattle.rows.proofs.Cells.{tells-yes, tells-no, tells-iff}
 use Rattle.refusals.specs.Local.{upTo, IsTree, IsTable}
 use Rattle.refusals.proofs.Tables.{type-no, room-no, tree-no, next, back, between, end-tells}
 use Rattle.refusals.proofs.trees.Statement.{statement}
 use Rattle.refusals.proofs.trees.Tie as tie
-use Rattle.refusals.proofs.trees.Reads as reads
-use Rattle.refusals.proofs.trees.Lts as lts
-use Rattle.refusals.proofs.rule_tree.Reads as rule-tree-reads
-use Rattle.rows.proofs.wide.Reads as wide-reads
 
 abbrev Inv-loop : tie.InvT-loop
 Inv-loop rules rows most count total i₀ from₀ i from =

@@ -7,9 +7,6 @@ use Rattle.refusals.proofs.Tells.{two-no, two-tells}
 use borrow.Author.Needs.{needs}
 use Rattle.refusals.proofs.two_fits.Statement.{statement}
 use Rattle.refusals.proofs.two_fits.Tie as tie
-use Rattle.refusals.proofs.two_fits.Reads as reads
-use Rattle.refusals.proofs.two_fits.Lts as lts
-use Rattle.rows.proofs.wide.Reads as wide-reads
 
 -- the two sizes are words
 right-fits : (c : tie.After-wide2) → Fits w32 (getD (c .before .before .before .before .before .before .before .args .rows .now) ((c .before .before .before .before .before .before .before .args .i - 1) * 4 + 3) 0)

@@ -3,10 +3,6 @@ use Rattle.refusals.specs.Local.{unusedZero}
 use borrow.Author.Needs.{needs}
 use Rattle.refusals.proofs.unused_zero.Statement.{statement}
 use Rattle.refusals.proofs.unused_zero.Tie as tie
-use Rattle.refusals.proofs.unused_zero.Reads as reads
-use Rattle.refusals.proofs.unused_zero.Lts as lts
-use Rattle.refusals.proofs.uses_y.Reads as uses-y-reads
-use Rattle.refusals.proofs.x_fits.Reads as x-fits-reads
 
 x-fits-requires : tie.Need-x-fits-requires
 x-fits-requires c κs = search needs

@@ -1,8 +1,6 @@
 use borrow.Author.Tests.{lt-ltb, le-ltb}
 use Rattle.refusals.proofs.uses_x.Statement.{statement}
 use Rattle.refusals.proofs.uses_x.Tie as tie
-use Rattle.refusals.proofs.uses_x.Reads as reads
-use Rattle.refusals.proofs.uses_x.Lts as lts
 
 returns : tie.Need-returns
 returns c = simp (lt-ltb _ _ (c .if1 .taken))

@@ -1,8 +1,6 @@
 use borrow.Author.Tests.{lt-ltb, le-ltb, eq-eqb, ne-eqb}
 use Rattle.refusals.proofs.uses_y.Statement.{statement}
 use Rattle.refusals.proofs.uses_y.Tie as tie
-use Rattle.refusals.proofs.uses_y.Reads as reads
-use Rattle.refusals.proofs.uses_y.Lts as lts
 
 returns : tie.Need-returns
 returns c = simp (lt-ltb _ _ (c .if1 .taken))

@@ -2,9 +2,6 @@ use borrow.Author.Tests.{eq-eqb, ne-eqb}
 use borrow.Author.Needs.{needs}
 use Rattle.refusals.proofs.x_fits.Statement.{statement}
 use Rattle.refusals.proofs.x_fits.Tie as tie
-use Rattle.refusals.proofs.x_fits.Reads as reads
-use Rattle.refusals.proofs.x_fits.Lts as lts
-use Rattle.refusals.proofs.uses_x.Reads as uses-x-reads
 
 returns : tie.Need-returns
 returns c = simp (eq-eqb _ _ (c .if1 .taken))

@@ -1,5 +1,5 @@
 use mathlib.Core.Path.{_≡_, refl}
-use Prim.Native.Nat.{_+_, _-_, _*_, _/_, _≤_, _<_}
+use Prim.Native.Nat.{_-_, _*_, _/_, _≤_}
 use borrow.Author.Needs.{needs}
 use native.Mathlib.Omega.{arith}
 use lib.ListN.{length, drop}
@@ -7,9 +7,6 @@ use Rattle.refusals.specs.Bytes.{anyFour, zeroRow}
 use Rattle.refusals.proofs.Fours.{any-found, any-passed, any-done}
 use Rattle.refusals.proofs.zero_counts.Statement.{statement}
 use Rattle.refusals.proofs.zero_counts.Tie as tie
-use Rattle.refusals.proofs.zero_counts.Reads as reads
-use Rattle.refusals.proofs.zero_counts.Lts as lts
-use Rattle.refusals.proofs.zero_row.Reads as zero-row-reads
 
 abbrev Inv-loop : tie.InvT-loop
 Inv-loop rows count i₀ i = (i ≤ length rows / 4) × (anyFour zeroRow rows ≡ anyFour zeroRow (drop (i * 4) rows))

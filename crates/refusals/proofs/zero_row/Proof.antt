@@ -2,8 +2,6 @@ use borrow.Author.Tests.{eq-eqb, ne-eqb}
 use Rattle.refusals.specs.Bytes.{zeroRow}
 use Rattle.refusals.proofs.zero_row.Statement.{statement}
 use Rattle.refusals.proofs.zero_row.Tie as tie
-use Rattle.refusals.proofs.zero_row.Reads as reads
-use Rattle.refusals.proofs.zero_row.Lts as lts
 
 returns : tie.Need-returns
 unfolding zeroRow
