@@ -456,8 +456,9 @@ fn check_names(rules: &[u32], rows: &[u32], text: &[u8], marks: &mut [u32]) -> V
 }
 
 // Refusals 2 to 6: the lowest that holds. Where none does, a table stands there, and the marks hold its names' hashes and its rules' ends.
-// The rows are read four times and the text twice; a literal costs at most 64 bytes more. The worst input has 256 names as long as the
-// text, which are hashed once each: 16,777,216 steps.
+// Full size takes about 830,000 instructions: each row is read three times, each byte once, each pair of hashes is compared, and a literal
+// past a byte above 127 costs at most 64 bytes more. The worst input has 256 names of 65,000 bytes that share their text, each hashed
+// once: 64 million instructions.
 pub fn check(rules: &[u32], rows: &[u32], text: &[u8], marks: &mut [u32]) -> Verdict
     requires { ⌜ 1024 ≤ length (now marks) ⌝ }
     ensures { λ v. ⌜ Checked v (lent (now (rules .entry)) (now (rows .entry)) (now (text .entry))) (now (marks .exit)) ⌝ }
