@@ -73,7 +73,8 @@ name-is text t i r h = let a = rule-words t i r h in rw (a .offset, a .length′
 
 -- ---- what find finds
 
-differ : (x key : Bytes) → (x ≡ key → ⊥) → sameBytes x key ≡ false
+-- bytes that differ are not the same
+pub differ : (x key : Bytes) → (x ≡ key → ⊥) → sameBytes x key ≡ false
 differ x key d = go (sameBytes x key) refl
   where
     go : (b : Bool) → sameBytes x key ≡ b → b ≡ false

@@ -11,20 +11,13 @@ use Rattle.grammar.specs.Rows.{Span}
 use Rattle.grammar.specs.Text.{bytesAt}
 use Rattle.grammar.specs.Table.{Rule, Table, ruleWords, resolveTable}
 use Rattle.grammar.specs.Refusals.{reserved, repeated, names, badNames}
-use Rattle.grammar.proofs.Logic.{eq-sameBytes, sameBytes-eq, none-some, some-eq}
+use Rattle.grammar.proofs.Logic.{eq-sameBytes, none-some, some-eq}
 use Rattle.names.specs.Names.{nameOf, First, Finds}
 use Rattle.names.specs.declared.Found.{Found}
 use Rattle.names.specs.declared.Found.the-variants.{At, Nothing}
-use Rattle.names.proofs.Finding.{There, there, inside-table, name-is, rule-count}
+use Rattle.names.proofs.Finding.{differ, There, there, inside-table, name-is, rule-count}
 use Rattle.refusals.specs.Bytes.{NameFree, NamesFine}
 use Rattle.refusals.proofs.Fours.{neither-left, neither-right}
-
-differ : (x y : Bytes) → (x ≡ y → ⊥) → sameBytes x y ≡ false
-differ x y d = go (sameBytes x y) refl
-  where
-    go : (b : Bool) → sameBytes x y ≡ b → b ≡ false
-    go true q = absurd (d (sameBytes-eq x y q))
-    go false q = refl
 
 module _ (text : Bytes) where
   abbrev nm : Rule Span → Bytes

@@ -1,6 +1,6 @@
 -- Bytes above 127: the first from a place on tells whether a part has one. Assumes nothing.
 use mathlib.Core.Path.{_≡_, refl, sym, ap, _∙_}
-use mathlib.Core.Bool.{Bool, true, false, _||_}
+use mathlib.Core.Bool.{Bool, true, false, _||_, or-true}
 use mathlib.Core.List.{List}
 use Prim.Native.Nat.{ℕ, zero, suc, _+_, _*_, _≤_, _<_}
 use native.Mathlib.Decide.{ℕ-discrete, decLt}
@@ -29,10 +29,6 @@ module _ (text : Bytes) where
       go : Dec (j ≡ x) → (x + 1 ≤ j → any (ltb 127) (bytesAt text (x + 1, n)) ≡ true) → (ltb 127 (getD text x 0) || any (ltb 127) (bytesAt text (x + 1, n))) ≡ true
       go (yes e) ih = ap (λ (b : Bool). b || any (ltb 127) (bytesAt text (x + 1, n))) (lt-ltb 127 (getD text x 0) (rw e at g))
       go (no e) ih = rw (ih (omega arith)) (or-true (ltb 127 (getD text x 0)))
-        where
-          or-true : (b : Bool) → (b || true) ≡ true
-          or-true true = refl
-          or-true false = refl
 
   -- the first byte above 127 from x on decides
   pub high-decides : (x n r : ℕ) → x + n ≤ length text → High text x r → ltb r (x + n) ≡ any (ltb 127) (bytesAt text (x, n))

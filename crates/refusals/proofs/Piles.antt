@@ -1,6 +1,6 @@
 -- Rows that are right one by one are a pile of trees, and one tree's rows are right: so the local test is exact. Assumes nothing.
 use mathlib.Core.Path.{_≡_, refl, sym, ap, ap₂, subst, _∙_}
-use mathlib.Core.Bool.{Bool, true, false, _&&_, _||_}
+use mathlib.Core.Bool.{Bool, true, false, _&&_, _||_, or-true, or-false}
 use mathlib.Core.List.{List, [], _∷_, _++_, append-assoc, append-nil}
 use Prim.Native.Nat.{ℕ, zero, suc, _+_, _-_, _*_, _≤_, _<_}
 use native.Mathlib.Numerals.{add-one}
@@ -47,19 +47,11 @@ one-below P (suc n) a k h = go (ℕ-discrete k n) (λ l. one-below P n (a .0) k 
     go (no e) ih = ih (omega arith)
 
 -- what a test of unused words says
-or-false : (b : Bool) → (b || false) ≡ true → b ≡ true
-or-false true e = refl
-or-false false e = e
-
-or-true : (b : Bool) → (b || true) ≡ true
-or-true true = refl
-or-true false = refl
-
 x-used : (x y : ℕ) (b : Bool) → ((eqb y 0 || false) && b) ≡ true → y ≡ 0
-x-used x y b h = eqb-true y 0 (or-false (eqb y 0) (and-left (eqb y 0 || false) b h))
+x-used x y b h = eqb-true y 0 (sym (or-false (eqb y 0)) ∙ (and-left (eqb y 0 || false) b h))
 
 none-used : (x y : ℕ) → ((eqb y 0 || false) && (eqb x 0 || false)) ≡ true → (x ≡ 0) × (y ≡ 0)
-none-used x y h = (eqb-true x 0 (or-false (eqb x 0) (and-right (eqb y 0 || false) (eqb x 0 || false) h)), x-used x y (eqb x 0 || false) h)
+none-used x y h = (eqb-true x 0 (sym (or-false (eqb x 0)) ∙ (and-right (eqb y 0 || false) (eqb x 0 || false) h)), x-used x y (eqb x 0 || false) h)
 
 both-used : (x y : ℕ) → ((eqb y 0 || true) && (eqb x 0 || true)) ≡ true
 both-used x y = rw (or-true (eqb y 0)) (or-true (eqb x 0))
