@@ -1,0 +1,3 @@
+-- Laws of outcomes, each step's law, the theorem of demand 3, and the examples.
+pub mod Asks
+pub mod Matcher
