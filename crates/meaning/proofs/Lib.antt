@@ -1,3 +1,5 @@
 -- Laws of outcomes, each step's law, the theorem of demand 3, and the examples.
 pub mod Asks
 pub mod Matcher
+pub mod Same
+pub mod Lift
