@@ -3,3 +3,5 @@ pub mod Asks
 pub mod Matcher
 pub mod Same
 pub mod Lift
+pub mod Rotate
+pub mod Concatenate
