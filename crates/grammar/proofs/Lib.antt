@@ -1,1 +1,10 @@
--- Laws of the definitions.
+-- Laws of the definitions, and their examples.
+pub mod Logic
+pub mod Words
+pub mod Packing
+pub mod TopDown
+pub mod Readings
+pub mod Stacks
+pub mod Notation
+pub mod Examples
+pub mod Slips

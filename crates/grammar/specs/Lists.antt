@@ -52,11 +52,11 @@ readFound (some e) false read = read e
 
 -- `opened` are the rules that are being read. Each look adds one, so n, one more than the rules, is never used up (Readings, `readName-enough`)
 abbrev pub readName : ℕ → Table Bytes → List Bytes → Bytes → Reading
-unfolding sameBytes
 readName zero t opened x = again
 readName (suc n) t opened x = readFound (find t x) (member x opened) (readIn (readName n t (x ∷ opened)))
 
 unfoldable pub skipList : Table Bytes → E → Reading
+unfolding sameBytes
 skipList given e = readIn (readName (suc (length given)) given []) e
 
 abbrev pub ANY : Bytes

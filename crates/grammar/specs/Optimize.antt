@@ -59,12 +59,15 @@ unfolding badText ofTable
 ofRead text none = refused 3
 ofRead text (some t) = refuseIf (badText text t) 4 (ofTable (resolveTable text t))
 
--- `in′` is lent; `out` are the output areas as they are lent, `a` and `b` the work tables, and marks
-unfoldable pub result : (in′ out a b : Words) (marks : List ℕ) → Result
+-- 2, then the rest
+unfoldable pub ofWords : Words → Result
 unfolding readTable ofRead
-result in′ out a b marks =
-    refuseIf (short out || (short a || (short b || shortMarks marks))) 1
-    (refuseIf (badCounts in′) 2 (ofRead (in′ .text) (readTable inputKinds (in′ .rules) (in′ .rows))))
+ofWords w = refuseIf (badCounts w) 2 (ofRead (w .text) (readTable inputKinds (w .rules) (w .rows)))
+
+-- 1, then the rest. `in′` is the input, `out` the output areas as they are lent, `a` and `b` the work tables
+unfoldable pub result : (in′ out a b : Words) (marks : List ℕ) → Result
+unfolding ofWords
+result in′ out a b marks = refuseIf (short out || (short a || (short b || shortMarks marks))) 1 (ofWords in′)
 
 -- What the caller gets: number, counts of rules, rows and text bytes, report; and the output areas afterwards
 pub record Answer : Type 0 where

@@ -101,7 +101,6 @@ zeroCounts t = any (λ r. anyNode zeroCount (r .body)) t
 
 -- 7: "a skip list meets a rule that is already being read". The loops are those of Atomic rules, rotated, as step 2 meets them
 abbrev pub meetsIn : Table Bytes → Option E → Bool
-unfolding skipList
 meetsIn given none = false
 meetsIn given (some x) = isAgain (skipList given x)
 

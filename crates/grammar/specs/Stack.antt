@@ -47,9 +47,9 @@ changesFound (some e) look = look e
 
 -- reached through at most n looks into rules; the number of rules is enough (Stacks, `changes-is`)
 abbrev pub changesName : ℕ → Table Bytes → Bytes → Bool
-unfolding sameBytes
 changesName zero t x = false
 changesName (suc n) t x = changesFound (find t x) (changesIn (changesName n t))
 
 unfoldable pub changes : Table Bytes → E → Bool
+unfolding sameBytes
 changes t e = changesIn (changesName (length t) t) e

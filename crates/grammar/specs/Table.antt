@@ -74,6 +74,5 @@ wordsOf t = record { rules = ruleWords (packedFrom 0 t); rows = rowWords (packed
 
 -- the expression of the rule with that name
 abbrev pub find : Table Bytes → Bytes → Option E
-unfolding sameBytes
 find [] x = none
 find (r ∷ rs) x = cond (sameBytes (r .name) x) (some (r .body)) (find rs x)

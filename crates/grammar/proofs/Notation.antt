@@ -1,0 +1,105 @@
+-- How the examples are written. Assumes nothing.
+use mathlib.Core.List.{List, [], _∷_}
+use Prim.Native.Nat.{ℕ}
+use lib.ListN.{replicate}
+use Rattle.grammar.specs.Basic.{Bytes}
+use Rattle.grammar.specs.Tree.{Choice, E, Ident, NegPred, Opt, Push, Rep, RestoreOnErr, Seq, Str, bin, lit, un}
+use Rattle.grammar.specs.Table.{Rule, Table, Words, wordsOf}
+use Rattle.grammar.specs.Lists.{ANY}
+use Rattle.grammar.specs.Optimize.{Answer, answer, finished, optimize, refused}
+
+-- output and work areas of full size; what stands in them before the call is any number, here 165 in each byte
+abbrev pub full : Words
+full = record { rules = replicate 1024 2779096485; rows = replicate 16384 2779096485; text = replicate 65536 165 }
+
+unfoldable pub call : Words → Answer
+unfolding optimize
+call w = optimize w full full full (replicate 1024 0)
+
+-- An example: words and the whole answer; words and the table that they give, or their number; the same for a table, packed
+pub data Example : Type 0 where
+  whole : Words → Answer → Example
+  makes : Words → Table Bytes → Example
+  numbered : Words → ℕ → Example
+  gives : Table Bytes → Table Bytes → Example
+  refuses : Table Bytes → ℕ → Example
+
+unfoldable pub found : Example → Answer
+unfolding call
+found (whole w a) = call w
+found (makes w u) = call w
+found (numbered w n) = call w
+found (gives t u) = call (wordsOf t)
+found (refuses t n) = call (wordsOf t)
+
+-- what the document says: of a table all but the report
+unfoldable pub wanted : Example → Answer
+unfolding call
+wanted (whole w a) = a
+wanted (makes w u) = answer full (finished (call w .report) u)
+wanted (numbered w n) = answer full (refused n)
+wanted (gives t u) = answer full (finished (call (wordsOf t) .report) u)
+wanted (refuses t n) = answer full (refused n)
+
+-- bytes: the letters a, b, c, d, r, x, y and z
+abbrev pub a : Bytes
+a = 97 ∷ []
+
+abbrev pub b : Bytes
+b = 98 ∷ []
+
+abbrev pub c : Bytes
+c = 99 ∷ []
+
+abbrev pub d : Bytes
+d = 100 ∷ []
+
+abbrev pub r : Bytes
+r = 114 ∷ []
+
+abbrev pub x : Bytes
+x = 120 ∷ []
+
+abbrev pub y : Bytes
+y = 121 ∷ []
+
+abbrev pub z : Bytes
+z = 122 ∷ []
+
+infixr 60 _~_
+infixr 50 _or_
+abbrev pub _~_ : E → E → E
+l ~ e = bin Seq l e
+
+-- an ordered Choice
+abbrev pub _or_ : E → E → E
+l or e = bin Choice l e
+
+abbrev pub str : Bytes → E
+str s = lit Str s
+
+abbrev pub id : Bytes → E
+id s = lit Ident s
+
+abbrev pub opt : E → E
+opt e = un Opt e
+
+abbrev pub rep : E → E
+rep e = un Rep e
+
+abbrev pub push : E → E
+push e = un Push e
+
+abbrev pub restored : E → E
+restored e = un RestoreOnErr e
+
+-- (!e ~ ANY)*
+abbrev pub until : E → E
+until e = rep (un NegPred e ~ id ANY)
+
+abbrev pub rule : Bytes → ℕ → E → Rule Bytes
+rule n t e = record { name = n; type = t; body = e }
+
+-- a sole rule r
+abbrev pub sole : ℕ → E → Table Bytes
+sole t e = rule r t e ∷ []
