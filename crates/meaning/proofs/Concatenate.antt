@@ -5,13 +5,15 @@ use mathlib.Core.List.{List, [], _∷_, _++_}
 use mathlib.Core.Option.{Option, some}
 use Prim.Native.Nat.{ℕ}
 use lib.Dec.{eqb}
-use Rattle.grammar.specs.Basic.{Bytes}
-use Rattle.grammar.specs.Tree.{Str, Insens, Seq, E, lit, bin, asSeq, asStr, asInsens}
+use Rattle.grammar.specs.Basic.{Bytes, _>>=_}
+use Rattle.grammar.specs.Tree.{Lit, Str, Insens, Seq, E, lit, bin, litKind, litAt, asSeq}
 use Rattle.grammar.specs.Table.{Table}
 use Rattle.grammar.specs.Steps.{isAtomic, joinStr, joinInsens, concat?, concatenate}
+use Rattle.grammar.proofs.Logic.{bind-case, alt-case, some-eq}
+use Rattle.grammar.proofs.TopDown.{asSeq-is}
 use Rattle.meaning.specs.Outcome.{Res, fail, ok, one, next, bytes, folded, Out, str, insens, seq-go, seq-no}
-use Rattle.meaning.proofs.Same.{Same, result, cond-same, orSame-same, bottomUp-same}
-use Rattle.meaning.proofs.Logic.{bind-case, alt-case, some-eq, asSeq-is, asStr-is, asInsens-is}
+use Rattle.meaning.proofs.Same.{Same, _∘_, equal, result, cond-same, orSame-same, bottomUp-same}
+use Rattle.meaning.proofs.Views.{litAt-is}
 
 bytes-append : (alike : ℕ → ℕ → Bool) (s v w : Bytes) (p : ℕ) → bytes alike s (v ++ w) p ≡ next (bytes alike s v p) (bytes alike s w)
 bytes-append alike s [] w p = refl
@@ -21,15 +23,52 @@ bytes-append alike s (c ∷ v) w p = go (bytes-append alike s v w) (one (alike c
     go ih fail = refl
     go ih (ok q) = ih q
 
--- `L w` is a literal: its outcomes are those of its bytes
-module _ {t : Table Bytes} {s : Bytes} (alike : ℕ → ℕ → Bool) (L : Bytes → E) (make : (w : Bytes) (p : ℕ) (r : Res) → bytes alike s w p ≡ r → Out t s (L w) p r) (take : (w : Bytes) (p : ℕ) (r : Res) → Out t s (L w) p r → bytes alike s w p ≡ r) where
-  join-to : {v w : Bytes} {p : ℕ} {r : Res} → Out t s (bin Seq (L v) (L w)) p r → Out t s (L (v ++ w)) p r
-  join-to {v} {w} {p} {r} (seq-no d) = make (v ++ w) p r (bytes-append alike s v w p ∙ ap (λ (x : Res). next x (bytes alike s w)) (take v p fail d))
-  join-to {v} {w} {p} {r} (seq-go {m = m} d f) = make (v ++ w) p r (bytes-append alike s v w p ∙ ap (λ (x : Res). next x (bytes alike s w)) (take v p (ok m) d) ∙ take w m r f)
+-- a literal of this kind takes its bytes, compared so
+pub record Takes (t : Table Bytes) (s : Bytes) (k : Lit) (alike : ℕ → ℕ → Bool) : Type 0 where
+  pub makes : {w : Bytes} {p : ℕ} {r : Res} → bytes alike s w p ≡ r → Out t s (lit k w) p r
+  pub takes : {w : Bytes} {p : ℕ} {r : Res} → Out t s (lit k w) p r → bytes alike s w p ≡ r
 
-  split : (v w : Bytes) {p : ℕ} {r : Res} (x : Res) → bytes alike s v p ≡ x → next x (bytes alike s w) ≡ r → Out t s (bin Seq (L v) (L w)) p r
-  split v w {p} {r} fail h k = result k (seq-no (make v p fail h))
-  split v w {p} {r} (ok m) h k = seq-go (make v p (ok m) h) (make w m r k)
+module _ {t : Table Bytes} {s : Bytes} where
+  str-takes : Takes t s Str eqb
+  str-takes = record { makes = str; takes = λ d. bytes-of d }
+    where
+      bytes-of : {w : Bytes} {p : ℕ} {r : Res} → Out t s (lit Str w) p r → bytes eqb s w p ≡ r
+      bytes-of (str h) = h
 
-  joined : (v w : Bytes) → Same t s (bin Seq (L v) (L w)) (L (v ++ w))
-  joined v w = record { to = join-to; from = λ {p} {r} d. split v w (bytes alike s v p) refl (sym (bytes-append alike s v w p) ∙ take (v ++ w) p r d) }
+  insens-takes : Takes t s Insens folded
+  insens-takes = record { makes = insens; takes = λ d. bytes-of d }
+    where
+      bytes-of : {w : Bytes} {p : ℕ} {r : Res} → Out t s (lit Insens w) p r → bytes folded s w p ≡ r
+      bytes-of (insens h) = h
+
+  module _ {k : Lit} {alike : ℕ → ℕ → Bool} (c : Takes t s k alike) where
+    join : {v w : Bytes} {p : ℕ} {r : Res} → Out t s (bin Seq (lit k v) (lit k w)) p r → Out t s (lit k (v ++ w)) p r
+    join {v} {w} {p} (seq-no d) = c .makes (bytes-append alike s v w p ∙ ap (λ (x : Res). next x (bytes alike s w)) (c .takes d))
+    join {v} {w} {p} (seq-go d f) = c .makes (bytes-append alike s v w p ∙ ap (λ (x : Res). next x (bytes alike s w)) (c .takes d) ∙ c .takes f)
+
+    split : (v w : Bytes) {p : ℕ} {r : Res} (x : Res) → bytes alike s v p ≡ x → next x (bytes alike s w) ≡ r → Out t s (bin Seq (lit k v) (lit k w)) p r
+    split v w fail h q = result q (seq-no (c .makes h))
+    split v w (ok m) h q = seq-go (c .makes h) (c .makes q)
+
+    -- Seq of two literals of that kind, and the one literal
+    pub joined : {v w : Bytes} → Same t s (bin Seq (lit k v) (lit k w)) (lit k (v ++ w))
+    joined {v} {w} = record { to = join; from = λ d. parted d }
+      where
+        parted : {p : ℕ} {r : Res} → Out t s (lit k (v ++ w)) p r → Out t s (bin Seq (lit k v) (lit k w)) p r
+        parted {p} d = split v w (bytes alike s v p) refl (sym (bytes-append alike s v w p) ∙ c .takes d)
+
+    pub join?-same : (l r x : E) → (litAt (litKind k) l >>= λ v. litAt (litKind k) r >>= λ w. some (lit k (v ++ w))) ≡ some x → Same t s (bin Seq l r) x
+    join?-same l r x h =
+        bind-case (litAt (litKind k) l) _ x h λ v f g.
+        bind-case (litAt (litKind k) r) _ x g λ w f′ q.
+        rw (litAt-is k l v f, litAt-is k r w f′) (joined ∘ equal (some-eq _ _ q))
+
+  concat?-same : (e x : E) → concat? e ≡ some x → Same t s e x
+  concat?-same e x h =
+      bind-case (asSeq e) _ x h λ q f g.
+      equal (asSeq-is e q f)
+      ∘ alt-case (joinStr (q .0) (q .1)) (joinInsens (q .0) (q .1)) x g (join?-same str-takes (q .0) (q .1) x) (join?-same insens-takes (q .0) (q .1) x)
+
+  pub concatenate-same : (y : ℕ) (e : E) → Same t s e (concatenate y e)
+  unfolding concatenate
+  concatenate-same y e = cond-same (isAtomic y) (bottomUp-same (orSame-same concat? concat?-same) e)

@@ -3,5 +3,6 @@ pub mod Asks
 pub mod Matcher
 pub mod Same
 pub mod Lift
+pub mod Views
 pub mod Rotate
 pub mod Concatenate
