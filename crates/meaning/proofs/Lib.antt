@@ -6,3 +6,6 @@ pub mod Lift
 pub mod Views
 pub mod Rotate
 pub mod Concatenate
+pub mod Factor
+pub mod Restore
+pub mod Listing
