@@ -1,16 +1,16 @@
 -- Listing's law: the listed form has every success of the loop it replaces, at the same end. Not its failures (Examples, W12). Assumes nothing.
-use mathlib.Core.Path.{_≡_, refl}
+use mathlib.Core.Path.{_≡_, _∙_}
 use mathlib.Core.Option.{Option, some}
 use Prim.Native.Nat.{ℕ}
 use Rattle.grammar.specs.Basic.{Bytes, test}
 use Rattle.grammar.specs.Tree.{Rep, Seq, E, un, bin, asRep, asSeq, same}
 use Rattle.grammar.specs.Table.{Table}
 use Rattle.grammar.specs.Steps.{list?}
-use Rattle.grammar.proofs.Logic.{some-eq, bind-case, test-true, same-eq}
+use Rattle.grammar.proofs.Logic.{bind-case, test-true, same-eq}
 use Rattle.grammar.proofs.TopDown.{asSeq-is}
 use Rattle.meaning.specs.Outcome.{Res, ok, Out, seq-go, seq-no, rep-go, rep-end}
 use Rattle.meaning.proofs.Matcher.{det}
-use Rattle.meaning.proofs.Same.{Same, equal, moved, never}
+use Rattle.meaning.proofs.Same.{equal, moved, never}
 use Rattle.meaning.proofs.Views.{asRep-is}
 
 module _ {t : Table Bytes} {s : Bytes} where
@@ -26,12 +26,15 @@ module _ {t : Table Bytes} {s : Bytes} where
   pub listing : {a b : E} {p m : ℕ} → Out t s (bin Seq (un Rep (bin Seq a b)) a) p (ok m) → Out t s (bin Seq a (un Rep (bin Seq b a))) p (ok m)
   listing (seq-go d f) = rounds d f
 
-  -- so it is for the rewrite of step 6
-  pub list?-succeeds : (e x : E) → list? e ≡ some x → {p m : ℕ} → Out t s e p (ok m) → Out t s x p (ok m)
+  -- the same of the rewrite of step 6, wherever it fires
+  pub list?-succeeds : {p m : ℕ} (e x : E) → list? e ≡ some x → Out t s e p (ok m) → Out t s x p (ok m)
   unfolding list?
   list?-succeeds e x h d =
       bind-case (asSeq e) _ x h λ q f g.
       bind-case (asRep (q .0)) _ x g λ l f′ g′.
       bind-case (asSeq l) _ x g′ λ c f″ g″.
       bind-case (test (same (c .0) (q .1))) _ x g″ λ u k w.
-      ?
+      let a : c .0 ≡ q .1 = same-eq (c .0) (q .1) (test-true (same (c .0) (q .1)) u k) in
+      let before : e ≡ bin Seq (un Rep (bin Seq (c .0) (c .1))) (c .0) = asSeq-is e q f ∙ cc (asRep-is (q .0) l f′, asSeq-is l c f″) in
+      let after : bin Seq (c .0) (un Rep (bin Seq (c .1) (c .0))) ≡ x = cc in
+      equal after .to (listing (equal before .to d))
