@@ -5,7 +5,8 @@ pub mod Same
 pub mod Lift
 pub mod Views
 pub mod Rotate
+pub mod Unroll
 pub mod Concatenate
 pub mod Factor
-pub mod Restore
 pub mod Listing
+pub mod Restore
