@@ -5,6 +5,7 @@ pub mod Same
 pub mod Lift
 pub mod Views
 pub mod Rotate
+pub mod Skip
 pub mod Unroll
 pub mod Concatenate
 pub mod Factor

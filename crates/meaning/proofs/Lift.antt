@@ -80,6 +80,10 @@ pub each-pairs : {R : E → E → Type 0} {P : E → Type 0} (f : ℕ → E → 
 each-pairs f h [] a = no-rules
 each-pairs f h (r ∷ t) a = pair refl (h (r .type) (r .body) (a .0)) (each-pairs f h t (a .1))
 
+pub anything : (t : Table Bytes) → All (λ e. Unit {0}) t
+anything [] = tt
+anything (r ∷ t) = (tt, anything t)
+
 -- a rewrite that keeps outcomes under every table keeps them when mapped through all rules
 pub each-keeps : (f : ℕ → E → E) (P : E → Type 0) → ((t : Table Bytes) (s : Bytes) (y : ℕ) (e : E) → P e → Same t s e (f y e)) → (t : Table Bytes) (s : Bytes) → All P t → Keeps t (each f t) s
 each-keeps f P h t s a = lifted (each-pairs f (λ y e x. record { before = h t s y e x; after = h (each f t) s y e x }) t a)
