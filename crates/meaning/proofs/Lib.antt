@@ -11,3 +11,6 @@ pub mod Concatenate
 pub mod Factor
 pub mod Listing
 pub mod Restore
+pub mod Counts
+pub mod Returned
+pub mod Theorem

@@ -12,7 +12,7 @@ use Rattle.grammar.specs.Table.{Table}
 use Rattle.grammar.specs.Steps.{nest, unrolled, unrollAt, unroll}
 use Rattle.grammar.specs.Refusals.{zeroUn}
 use Rattle.meaning.specs.Outcome.{Res, fail, ok, Out, seq-go, seq-no, opt-ok, opt-no, count-go, count-end, count-max, exact, at-most, min-go, min-no, min-rep, once}
-use Rattle.meaning.specs.Demand3.{crossed}
+use Rattle.meaning.specs.Demand3.{crossedUn}
 use Rattle.meaning.proofs.Matcher.{det}
 use Rattle.meaning.proofs.Same.{Same, same, _∘_, equal, result, un-same, bin-same}
 
@@ -123,7 +123,7 @@ module _ {t : Table Bytes} {s : Bytes} {e : E} where
       inside : {p : ℕ} {r : Res} → Out t s (un RepOnce e) p r → Out t s (un (RepMin 1) e) p r
       inside (once d) = d
 
-  pub unrolled-same : (u : Un) → zeroUn u ≡ false → crossed u ≡ false → Same t s (un u e) (unrolled u e)
+  pub unrolled-same : (u : Un) → zeroUn u ≡ false → crossedUn u ≡ false → Same t s (un u e) (unrolled u e)
   unrolled-same PosPred z c = same
   unrolled-same NegPred z c = same
   unrolled-same Opt z c = same
@@ -144,7 +144,7 @@ abbrev pub Counted : E → Type 0
 Counted (lit k w) = Unit {0}
 Counted (fixed f) = Unit {0}
 Counted (skip ss) = Unit {0}
-Counted (un u e) = (zeroUn u ≡ false) × (crossed u ≡ false) × Counted e
+Counted (un u e) = (zeroUn u ≡ false) × (crossedUn u ≡ false) × Counted e
 Counted (bin b l r) = Counted l × Counted r
 
 pub unroll-same : {t : Table Bytes} {s : Bytes} (e : E) → Counted e → Same t s e (unroll e)

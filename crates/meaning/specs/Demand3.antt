@@ -1,18 +1,125 @@
--- Demand 3, as the customer states it. Assumes nothing.
-use mathlib.Core.Bool.{Bool, true, false}
-use Prim.Native.Nat.{ℕ}
+-- Demand 3, in the customer's words: what an accepted grammar has to meet, and what is then certain. Assumes nothing.
+use mathlib.Core.Path.{_≡_}
+use mathlib.Core.Bool.{Bool, true, false, not}
+use mathlib.Core.List.{List, [], _∷_}
+use mathlib.Core.Option.{Option, some}
+use mathlib.Core.Logic.{_↔_}
+use Prim.Native.Nat.{ℕ, _*_}
+use lib.ListN.{take, getD}
 use lib.Dec.{ltb}
-use Rattle.grammar.specs.Tree.{Un, PosPred, NegPred, Opt, Rep, RepOnce, Push, RestoreOnErr, RepExact, RepMin, RepMax, RepMinMax}
+use Rattle.grammar.specs.Basic.{Bytes, any, member, sameBytes}
+use Rattle.grammar.specs.Tree.{Lit, Str, Insens, Ident, Fixed, Range, PeekSlice, PeekFrom, Un, PosPred, NegPred, Opt, Rep, RepOnce, Push, RestoreOnErr, RepExact, RepMin, RepMax, RepMinMax, E, lit, fixed, skip, un, bin, isUn, anyNode}
+use Rattle.grammar.specs.Rows.{Span}
+use Rattle.grammar.specs.Table.{Table, Words, resolveTable, find}
+use Rattle.grammar.specs.Reading.{Kinds, readTable}
+use Rattle.grammar.specs.Lists.{ANY}
+use Rattle.grammar.specs.Steps.{isTight}
+use Rattle.grammar.specs.Refusals.{names}
+use Rattle.grammar.specs.Optimize.{stages, Answer}
+use Rattle.meaning.specs.Outcome.{Res, Out}
 
-abbrev pub crossed : Un → Bool
-crossed PosPred = false
-crossed NegPred = false
-crossed Opt = false
-crossed Rep = false
-crossed RepOnce = false
-crossed Push = false
-crossed RestoreOnErr = false
-crossed (RepExact n) = false
-crossed (RepMin n) = false
-crossed (RepMax n) = false
-crossed (RepMinMax m n) = ltb n m
+-- The table that words stand for, read with these kinds allowed
+
+pub record StandFor (kinds : Kinds) (w : Words) (t : Table Bytes) : Type 0 where
+  pub spans : Table Span
+  pub read : readTable kinds (w .rules) (w .rows) ≡ some spans
+  pub means : resolveTable (w .text) spans ≡ t
+
+abbrev pub allKinds : Kinds
+allKinds k = true
+
+-- the returned words: as many as the counts say, of each output area
+abbrev pub returned : Answer → Words
+returned a = record { rules = take (4 * a .rules) (a .out .rules); rows = take (4 * a .rows) (a .out .rows); text = take (a .text) (a .out .text) }
+
+-- "the table after the first n steps"
+unfoldable pub after : ℕ → Table Bytes → Table Bytes
+unfolding stages
+after n t = getD (stages t) n []
+
+-- The premises, one by one
+
+-- no expression of a rule, at any depth, passes the test
+abbrev pub Nowhere : (E → Bool) → Table Bytes → Type 0
+Nowhere test t = any (λ r. anyNode test (r .body)) t ≡ false
+
+-- an Ident of neither ANY nor a rule
+abbrev pub unknown : Table Bytes → E → Bool
+unfolding sameBytes
+unknown t (lit Str w) = false
+unknown t (lit Insens w) = false
+unknown t (lit Ident x) = not (member x (ANY ∷ names t))
+unknown t (fixed f) = false
+unknown t (skip ss) = false
+unknown t (un u e) = false
+unknown t (bin b l r) = false
+
+abbrev pub isPush : E → Bool
+isPush (lit k w) = false
+isPush (fixed f) = false
+isPush (skip ss) = false
+isPush (un u e) = isUn 18 u
+isPush (bin b l r) = false
+
+abbrev pub isPeek : E → Bool
+isPeek (lit k w) = false
+isPeek (fixed (Range a b)) = false
+isPeek (fixed (PeekSlice a b)) = true
+isPeek (fixed (PeekFrom a)) = true
+isPeek (skip ss) = false
+isPeek (un u e) = false
+isPeek (bin b l r) = false
+
+-- a minimum above its maximum
+abbrev pub crossedUn : Un → Bool
+crossedUn PosPred = false
+crossedUn NegPred = false
+crossedUn Opt = false
+crossedUn Rep = false
+crossedUn RepOnce = false
+crossedUn Push = false
+crossedUn RestoreOnErr = false
+crossedUn (RepExact n) = false
+crossedUn (RepMin n) = false
+crossedUn (RepMax n) = false
+crossedUn (RepMinMax m n) = ltb n m
+
+abbrev pub crossed : E → Bool
+crossed (lit k w) = false
+crossed (fixed f) = false
+crossed (skip ss) = false
+crossed (un u e) = crossedUn u
+crossed (bin b l r) = false
+
+-- Of these the proof uses `counts` alone (Counterexamples: why). The others the model does not need: it has no implicit whitespace, so that
+-- types are of no account, and a name of no rule, a Push and a PeekSlice have no outcome, before and after
+pub record Premises (t : Table Bytes) : Type 0 where
+  -- "every rule Atomic or CompoundAtomic"
+  pub types : any (λ r. not (isTight (r .type))) t ≡ false
+  -- "every name ANY or a rule of the table"
+  pub known : Nowhere (unknown t) t
+  -- "no Push, no PeekSlice"
+  pub no-push : Nowhere isPush t
+  pub no-peek : Nowhere isPeek t
+  -- "no minimum above its maximum"
+  pub counts : Nowhere crossed t
+
+-- What is certain
+
+-- "input is a list of bytes 0 to 127". The proof does not use it: ANY and Range take one byte of whatever value
+abbrev pub Ascii : Bytes → Type 0
+Ascii s = any (ltb 127) s ≡ false
+
+-- "For every rule, ASCII input and start position", u "fails, or succeeds at an end, exactly when" t does
+pub record SameOutcomes (t u : Table Bytes) : Type 0 where
+  pub rules : names u ≡ names t
+  pub outcomes : (s : Bytes) → Ascii s → (x : Bytes) (e f : E) → find t x ≡ some e → find u x ≡ some f → (p : ℕ) (r : Res) → Out t s e p r ↔ Out u s f p r
+
+-- of the table t that was lent, and the answer to it
+pub record Demand3 (t : Table Bytes) (a : Answer) : Type 0 where
+  -- "the table after the first five steps"
+  pub five : SameOutcomes t (after 5 t)
+  -- the returned words stand for the returned table
+  pub words : StandFor allKinds (returned a) (after 7 t)
+  -- "Where listing fires nowhere, the returned table does so too"
+  pub seven : after 6 t ≡ after 5 t → SameOutcomes t (after 7 t)
