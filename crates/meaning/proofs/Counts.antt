@@ -1,6 +1,6 @@
 -- What unroll asks for holds in an accepted table that meets the premise on counts, and rotate and skip keep it. Assumes nothing.
 use mathlib.Core.Path.{_≡_, refl, subst}
-use mathlib.Core.Bool.{Bool, true, false, true≢false, _||_, cond}
+use mathlib.Core.Bool.{Bool, true, false, cond}
 use mathlib.Core.List.{List, [], _∷_}
 use mathlib.Core.Option.{Option, none, some}
 use Prim.Native.Nat.{ℕ, zero, suc}
@@ -12,12 +12,9 @@ use Rattle.grammar.specs.Steps.{children, topDownIn, orSame, isAtomic, rotated,
 use Rattle.grammar.specs.Refusals.{zeroUn, zeroCount, zeroCounts}
 use Rattle.grammar.proofs.Logic.{some-eq, bind-case}
 use Rattle.meaning.specs.Demand3.{Nowhere, crossedUn, crossed}
+use Rattle.meaning.proofs.Views.{neither}
 use Rattle.meaning.proofs.Lift.{All}
 use Rattle.meaning.proofs.Unroll.{Counted}
-
-pub neither : (a b : Bool) → (a || b) ≡ false → (a ≡ false) × (b ≡ false)
-neither true b h = absurd (true≢false h)
-neither false b h = (refl, h)
 
 counted-in : (e : E) → anyNode zeroCount e ≡ false → anyNode crossed e ≡ false → Counted e
 counted-in (lit k w) z c = tt

@@ -12,5 +12,8 @@ pub mod Factor
 pub mod Listing
 pub mod Restore
 pub mod Counts
+pub mod Accepted
 pub mod Returned
 pub mod Theorem
+pub mod Counterexamples
+pub mod Examples

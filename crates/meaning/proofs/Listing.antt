@@ -1,17 +1,20 @@
 -- Listing's law: the listed form has every success of the loop it replaces, at the same end. Not its failures (Examples, W12). Assumes nothing.
-use mathlib.Core.Path.{_≡_, _∙_}
-use mathlib.Core.Option.{Option, some}
+use mathlib.Core.Path.{_≡_, refl, ap, ap₂, _∙_}
+use mathlib.Core.Bool.{Bool, true, false, true≢false, _||_}
+use mathlib.Core.List.{List, [], _∷_}
+use mathlib.Core.Option.{Option, none, some}
 use Prim.Native.Nat.{ℕ}
-use Rattle.grammar.specs.Basic.{Bytes, test}
-use Rattle.grammar.specs.Tree.{Rep, Seq, E, un, bin, asRep, asSeq, same}
+use Rattle.grammar.specs.Basic.{Bytes, any, orElse, test}
+use Rattle.grammar.specs.Tree.{Rep, Seq, E, lit, fixed, skip, un, bin, anyNode, asRep, asSeq, same}
 use Rattle.grammar.specs.Table.{Table}
-use Rattle.grammar.specs.Steps.{list?}
+use Rattle.grammar.specs.Steps.{orSame, list?, list, each}
 use Rattle.grammar.proofs.Logic.{bind-case, test-true, same-eq}
 use Rattle.grammar.proofs.TopDown.{asSeq-is}
 use Rattle.meaning.specs.Outcome.{Res, ok, Out, seq-go, seq-no, rep-go, rep-end}
+use Rattle.meaning.specs.Demand3.{Nowhere}
 use Rattle.meaning.proofs.Matcher.{det}
 use Rattle.meaning.proofs.Same.{equal, moved, never}
-use Rattle.meaning.proofs.Views.{asRep-is}
+use Rattle.meaning.proofs.Views.{neither, asRep-is}
 
 module _ {t : Table Bytes} {s : Bytes} where
   more : {a b : E} {p m x q : ℕ} → Out t s a p (ok m) → Out t s b m (ok x) → Out t s (bin Seq a (un Rep (bin Seq b a))) x (ok q) → Out t s (bin Seq a (un Rep (bin Seq b a))) p (ok q)
@@ -38,3 +41,40 @@ module _ {t : Table Bytes} {s : Bytes} where
       let before : e ≡ bin Seq (un Rep (bin Seq (c .0) (c .1))) (c .0) = asSeq-is e q f ∙ cc (asRep-is (q .0) l f′, asSeq-is l c f″) in
       let after : bin Seq (c .0) (un Rep (bin Seq (c .1) (c .0))) ≡ x = cc in
       equal after .to (listing (equal before .to d))
+
+-- Where the rewrite fires at no node, step 6 changes nothing
+
+abbrev pub present : Option E → Bool
+present none = false
+present (some x) = true
+
+abbrev pub fires : E → Bool
+unfolding list?
+fires e = present (list? e)
+
+unfired : (e : E) → fires e ≡ false → orSame list? e ≡ e
+unfolding list?
+unfired e h = go (list? e) h
+  where
+    go : (o : Option E) → present o ≡ false → orElse o e ≡ e
+    go none k = refl
+    go (some x) k = absurd (true≢false k)
+
+list-still : (e : E) → anyNode fires e ≡ false → list e ≡ e
+unfolding list
+list-still (lit k w) h = refl
+list-still (fixed f) h = refl
+list-still (skip ss) h = refl
+list-still (un u e) h =
+    let q = neither (fires (un u e)) (anyNode fires e) h in
+    ap (λ (x : E). orSame list? (un u x)) (list-still e (q .1)) ∙ unfired (un u e) (q .0)
+list-still (bin b l r) h =
+    let q = neither (fires (bin b l r)) (anyNode fires l || anyNode fires r) h in
+    let v = neither (anyNode fires l) (anyNode fires r) (q .1) in
+    ap₂ (λ (x y : E). orSame list? (bin b x y)) (list-still l (v .0)) (list-still r (v .1)) ∙ unfired (bin b l r) (q .0)
+
+pub lists-nowhere : (t : Table Bytes) → Nowhere fires t → each (λ _. list) t ≡ t
+lists-nowhere [] h = refl
+lists-nowhere (r ∷ t) h =
+    let q = neither (anyNode fires (r .body)) (any (λ r. anyNode fires (r .body)) t) h in
+    ap₂ (λ (e : E) (u : Table Bytes). record { name = r .name; type = r .type; body = e } ∷ u) (list-still (r .body) (q .0)) (lists-nowhere t (q .1))

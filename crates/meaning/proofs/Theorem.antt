@@ -1,22 +1,18 @@
 -- DEMAND 3. Assumes nothing.
-use mathlib.Core.Path.{_≡_, refl, sym, ap, subst, _∙_}
-use mathlib.Core.Bool.{Bool, true, false, _||_, cond}
+use mathlib.Core.Path.{_≡_, refl, sym, ap, subst}
+use mathlib.Core.Bool.{false}
 use mathlib.Core.List.{List, [], _∷_}
-use mathlib.Core.Option.{Option, none, some}
+use mathlib.Core.Option.{some}
 use mathlib.Core.Logic.{_↔_}
-use Prim.Native.Nat.{ℕ, suc}
-use native.Mathlib.Omega.{arith}
-use Rattle.grammar.specs.Basic.{Bytes, any, sameBytes, member}
-use Rattle.grammar.specs.Tree.{E, Ident, lit}
-use Rattle.grammar.specs.Rows.{Span}
-use Rattle.grammar.specs.Table.{Table, Words, resolveTable, find}
-use Rattle.grammar.specs.Reading.{readTable, inputKinds}
+use Prim.Native.Nat.{ℕ}
+use Rattle.grammar.specs.Basic.{Bytes, sameBytes}
+use Rattle.grammar.specs.Tree.{E}
+use Rattle.grammar.specs.Table.{Table, Words, find}
+use Rattle.grammar.specs.Reading.{inputKinds}
 use Rattle.grammar.specs.Lists.{ANY}
-use Rattle.grammar.specs.Stack.{stackNames}
-use Rattle.grammar.specs.Steps.{onRule, each, rotate, skipTo, unroll, concatenate, factor, list, restore}
-use Rattle.grammar.specs.Refusals.{short, shortMarks, badCounts, badText, reserved, repeated, names, badNames, zeroCounts, meets, tooLarge}
-use Rattle.grammar.specs.Optimize.{stages, pairs, lastOf, Result, refused, finished, refuseIf, finish, ofTable, ofRead, result, answer, optimize}
-use Rattle.grammar.proofs.Logic.{none-some, sameBytes-eq}
+use Rattle.grammar.specs.Steps.{each, rotate, skipTo, unroll, concatenate, factor, list, restore}
+use Rattle.grammar.specs.Refusals.{names}
+use Rattle.grammar.specs.Optimize.{stages, pairs, Result, result, answer, optimize}
 use Rattle.grammar.proofs.Words.{AllowedTable, table-is}
 use Rattle.meaning.specs.Outcome.{Res, Out}
 use Rattle.meaning.specs.Demand3.{StandFor, allKinds, returned, after, Nowhere, crossed, Premises, SameOutcomes, Demand3}
@@ -28,29 +24,9 @@ use Rattle.meaning.proofs.Unroll.{Counted, unroll-same}
 use Rattle.meaning.proofs.Concatenate.{concatenate-same}
 use Rattle.meaning.proofs.Factor.{factor-same}
 use Rattle.meaning.proofs.Restore.{restore-same}
-use Rattle.meaning.proofs.Counts.{neither, counted, counted-after}
+use Rattle.meaning.proofs.Counts.{counted, counted-after}
+use Rattle.meaning.proofs.Accepted.{Plain, accepted-plain, Accepted, accepted}
 use Rattle.meaning.proofs.Returned.{given-allowed, each-allowed, words-stand}
-
--- Refusal 5: no rule is named ANY
-
-abbrev Plain : Table Bytes → Type 0
-Plain t = (x : Bytes) (e : E) → find t x ≡ some e → sameBytes x ANY ≡ false
-
-unreserved : (t : Table Bytes) → any (λ x. member x reserved) (names t) ≡ false → Plain t
-unfolding sameBytes
-unreserved [] h x e l = none-some l
-unreserved (r ∷ t) h x e l =
-    let p = neither (member (r .name) reserved) (any (λ x. member x reserved) (names t)) h in
-    let q = neither (sameBytes (r .name) ANY) (member (r .name) stackNames) (p .0) in
-    go (sameBytes (r .name) x) refl l (q .0) (unreserved t (p .1) x e)
-  where
-    go : (b : Bool) → sameBytes (r .name) x ≡ b → cond b (some (r .body)) (find t x) ≡ some e → sameBytes (r .name) ANY ≡ false → (find t x ≡ some e → sameBytes x ANY ≡ false) → sameBytes x ANY ≡ false
-    go true q k a ih = rw (← sameBytes-eq (r .name) x q) a
-    go false q k a ih = ih k
-
-accepted-plain : (t : Table Bytes) → badNames t ≡ false → Plain t
-unfolding badNames
-accepted-plain t h = unreserved t (neither (repeated (names t)) (any (λ x. member x reserved) (names t)) h .1)
 
 -- The first five steps, and restore, keep every outcome of every expression
 
@@ -90,50 +66,25 @@ same-outcomes t u plain n h = record { rules = n; outcomes = λ s _ x e f l k p 
     rule : {s : Bytes} {e f : E} {p : ℕ} {r : Res} (x : Bytes) → sameBytes x ANY ≡ false → find t x ≡ some e → find u x ≡ some f → Keeps t u s → Out t s e p r ↔ Out u s f p r
     rule x a l k v = (λ d. name-same a k .to (v .to (name-same a l .from d)), λ d. name-same a l .to (v .from (name-same a k .from d)))
 
--- What an accepted call tells: refusals 5 and 6 do not apply, and it ends with the table after the seventh step
-
-record Accepted (t : Table Bytes) (r : Result) : Type 0 where
-  named : badNames t ≡ false
-  counts : zeroCounts t ≡ false
-  ends : r ≡ finished (pairs (stages t)) (after 7 t)
-
-abbrev tests : (b₁ b₂ b₄ b₅ b₆ b₇ b₈ : Bool) → Result → Result
-tests b₁ b₂ b₄ b₅ b₆ b₇ b₈ r = refuseIf b₁ 1 (refuseIf b₂ 2 (refuseIf b₄ 4 (refuseIf b₅ 5 (refuseIf b₆ 6 (refuseIf b₇ 7 (refuseIf b₈ 8 r))))))
-
-passed : (out : Words) (b₁ b₂ b₄ b₅ b₆ b₇ b₈ : Bool) (r : Result) → answer out (tests b₁ b₂ b₄ b₅ b₆ b₇ b₈ r) .number ≡ 0 → (b₅ ≡ false) × (b₆ ≡ false) × (tests b₁ b₂ b₄ b₅ b₆ b₇ b₈ r ≡ r)
-passed out true b₂ b₄ b₅ b₆ b₇ b₈ r h = absurd (omega arith)
-passed out false true b₄ b₅ b₆ b₇ b₈ r h = absurd (omega arith)
-passed out false false true b₅ b₆ b₇ b₈ r h = absurd (omega arith)
-passed out false false false true b₆ b₇ b₈ r h = absurd (omega arith)
-passed out false false false false true b₇ b₈ r h = absurd (omega arith)
-passed out false false false false false true b₈ r h = absurd (omega arith)
-passed out false false false false false false true r h = absurd (omega arith)
-passed out false false false false false false false r h = (refl, refl, refl)
-
-accepted : (in′ out a b : Words) (marks : List ℕ) (spans : Table Span) → readTable inputKinds (in′ .rules) (in′ .rows) ≡ some spans → optimize in′ out a b marks .number ≡ 0 → Accepted (resolveTable (in′ .text) spans) (result in′ out a b marks)
-unfolding optimize after
-accepted in′ out a b marks spans read h =
-    let t : Table Bytes = resolveTable (in′ .text) spans in
-    let b₁ : Bool = short out || (short a || (short b || shortMarks marks)) in
-    let q : result in′ out a b marks ≡ refuseIf b₁ 1 (refuseIf (badCounts in′) 2 (ofRead (in′ .text) (some spans))) = ap (λ (o : Option (Table Span)). refuseIf b₁ 1 (refuseIf (badCounts in′) 2 (ofRead (in′ .text) o))) read in
-    let x = passed out b₁ (badCounts in′) (badText (in′ .text) spans) (badNames t) (zeroCounts t) (meets t) (any tooLarge (stages t)) (finished (pairs (stages t)) (lastOf (stages t))) (sym (ap (λ (r : Result). answer out r .number) q) ∙ h) in
-    record { named = x .0; counts = x .1; ends = q ∙ x .2 }
-
 seven-allowed : (t : Table Bytes) → AllowedTable allKinds t → AllowedTable allKinds (after 7 t)
 unfolding after
 seven-allowed t h =
     each-allowed (λ _. restore (after 6 t)) (after 6 t) (each-allowed (λ _. list) (after 5 t) (each-allowed factor (after 4 t) (each-allowed concatenate (after 3 t) (each-allowed (λ _. unroll) (after 2 t) (each-allowed (skipTo t) (after 1 t) (each-allowed (λ _. rotate) t h))))))
 
--- DEMAND 3: for all words that are accepted and whose table meets the premises
-pub demand3 : (in′ out a b : Words) (marks : List ℕ) (t : Table Bytes) → optimize in′ out a b marks .number ≡ 0 → StandFor inputKinds in′ t → Premises t → Demand3 t (optimize in′ out a b marks)
+-- with the one premise that it needs
+pub demand3-counts : (in′ out a b : Words) (marks : List ℕ) (t : Table Bytes) → optimize in′ out a b marks .number ≡ 0 → StandFor inputKinds in′ t → Nowhere crossed t → Demand3 t (optimize in′ out a b marks)
 unfolding optimize
-demand3 in′ out a b marks t zero w premises =
+demand3-counts in′ out a b marks t zero w counts =
     let done : Accepted t (result in′ out a b marks) = subst (λ (u : Table Bytes). Accepted u (result in′ out a b marks)) (w .means) (accepted in′ out a b marks (w .spans) (w .read) zero) in
     let kinds : AllowedTable allKinds t = subst (AllowedTable allKinds) (w .means) (given-allowed (in′ .text) (w .spans) (table-is inputKinds (in′ .rules) (in′ .rows) (w .spans) (w .read) .allowed)) in
     let plain : Plain t = accepted-plain t (done .named) in
-    let five : (s : Bytes) → Keeps t (after 5 t) s = five-keeps t plain (counted t (done .counts) (premises .counts)) in
+    let five : (s : Bytes) → Keeps t (after 5 t) s = five-keeps t plain (counted t (done .counts) counts) in
     record {
       five = same-outcomes t (after 5 t) plain (five-names t) five;
       words = subst (λ (r : Result). StandFor allKinds (returned (answer out r)) (after 7 t)) (sym (done .ends)) (words-stand out (pairs (stages t)) (after 7 t) (seven-allowed t kinds));
       seven = λ h. same-outcomes t (after 7 t) plain (seven-names t) (λ s. subst (λ (u : Table Bytes). Keeps t u s) (sym h) (five s) then restore-keeps t s);
     }
+
+-- DEMAND 3: for all words that are accepted and whose table meets the premises
+pub demand3 : (in′ out a b : Words) (marks : List ℕ) (t : Table Bytes) → optimize in′ out a b marks .number ≡ 0 → StandFor inputKinds in′ t → Premises t → Demand3 t (optimize in′ out a b marks)
+demand3 in′ out a b marks t zero w premises = demand3-counts in′ out a b marks t zero w (premises .counts)

@@ -1,11 +1,15 @@
--- A node that a view takes apart is a node of that kind. Assumes nothing.
-use mathlib.Core.Path.{_≡_, refl, ap, _∙_}
-use mathlib.Core.Bool.{false≢true, Bool, true, false, cond}
+-- Small inversions: what a failed test says, and that a node which a view takes apart is a node of that kind. Assumes nothing.
+use mathlib.Core.Path.{_≡_, refl}
+use mathlib.Core.Bool.{true≢false, false≢true, Bool, true, false, _||_, cond}
 use mathlib.Core.Option.{Option, some, none}
 use Prim.Native.Nat.{ℕ}
 use Rattle.grammar.specs.Basic.{Bytes}
 use Rattle.grammar.specs.Tree.{Lit, Str, Insens, Ident, Un, PosPred, NegPred, Opt, Rep, RepOnce, Push, RestoreOnErr, RepExact, RepMin, RepMax, RepMinMax, Seq, Choice, E, lit, fixed, skip, un, bin, isUn, litKind, litAt, unAt, asNegPred, asRep, asChoice}
 use Rattle.grammar.proofs.Logic.{none-some}
+
+pub neither : (a b : Bool) → (a || b) ≡ false → (a ≡ false) × (b ≡ false)
+neither true b h = absurd (true≢false h)
+neither false b h = (refl, h)
 
 pub litAt-is : (k : Lit) (e : E) (w : Bytes) → litAt (litKind k) e ≡ some w → e ≡ lit k w
 litAt-is Str (lit Str v) w h = cc
