@@ -9,7 +9,7 @@ use Rattle.grammar.specs.Basic.{Bytes, any, sameBytes, member}
 use Rattle.grammar.specs.Tree.{E}
 use Rattle.grammar.specs.Rows.{Span}
 use Rattle.grammar.specs.Table.{Table, Words, resolveTable, find}
-use Rattle.grammar.specs.Reading.{readTable, inputKinds}
+use Rattle.grammar.specs.Reading.{Kinds, readTable, inputKinds}
 use Rattle.grammar.specs.Lists.{ANY}
 use Rattle.grammar.specs.Stack.{stackNames}
 use Rattle.grammar.specs.Refusals.{short, shortMarks, badCounts, badText, reserved, repeated, names, badNames, zeroCounts, meets, tooLarge}
@@ -68,7 +68,7 @@ accepted in′ out a b marks spans read h =
     let x = passed out b₁ (badCounts in′) (badText (in′ .text) spans) (badNames t) (zeroCounts t) (meets t) (any tooLarge (stages t)) (finished (pairs (stages t)) (lastOf (stages t))) (sym (ap (λ (r : Result). answer out r .number) q) ∙ h) in
     record { named = x .0; counts = x .1; ends = q ∙ x .2 }
 
--- it has one table
+-- its words are read
 pub lent : (in′ out a b : Words) (marks : List ℕ) → optimize in′ out a b marks .number ≡ 0 → (t : Table Bytes) × StandFor inputKinds in′ t
 unfolding optimize
 lent in′ out a b marks h = go (readTable inputKinds (in′ .rules) (in′ .rows)) refl (short out || (short a || (short b || shortMarks marks))) (badCounts in′) h
@@ -79,5 +79,6 @@ lent in′ out a b marks h = go (readTable inputKinds (in′ .rules) (in′ .row
     go none q false true k = absurd (omega arith)
     go none q false false k = absurd (omega arith)
 
-pub lent-one : {w : Words} {t u : Table Bytes} → StandFor inputKinds w t → StandFor inputKinds w u → t ≡ u
-lent-one {w} p q = sym (p .means) ∙ ap (resolveTable (w .text)) (some-eq (p .spans) (q .spans) (sym (p .read) ∙ q .read)) ∙ q .means
+-- words stand for one table
+pub one-table : {kinds : Kinds} {w : Words} {t u : Table Bytes} → StandFor kinds w t → StandFor kinds w u → t ≡ u
+one-table {kinds} {w} p q = sym (p .means) ∙ ap (resolveTable (w .text)) (some-eq (p .spans) (q .spans) (sym (p .read) ∙ q .read)) ∙ q .means

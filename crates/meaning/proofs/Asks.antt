@@ -1,5 +1,5 @@
 -- A match, step by step: what it asks for first, and what then follows. One induction over outcomes, for all laws about them. Assumes nothing.
-use mathlib.Core.Path.{_≡_, refl, ap, subst}
+use mathlib.Core.Path.{_≡_, refl, subst}
 use mathlib.Core.Bool.{Bool, true, false, cond}
 use mathlib.Core.Option.{some}
 use Prim.Native.Nat.{ℕ, zero, suc, pred}

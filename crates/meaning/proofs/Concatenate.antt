@@ -1,8 +1,8 @@
 -- Concatenate's law: the bytes of two literals, one after the other, are the bytes of one. Assumes nothing.
 use mathlib.Core.Path.{_≡_, refl, sym, ap, _∙_}
 use mathlib.Core.Bool.{Bool}
-use mathlib.Core.List.{List, [], _∷_, _++_}
-use mathlib.Core.Option.{Option, some}
+use mathlib.Core.List.{[], _∷_, _++_}
+use mathlib.Core.Option.{some}
 use Prim.Native.Nat.{ℕ}
 use lib.Dec.{eqb}
 use Rattle.grammar.specs.Basic.{Bytes, _>>=_}

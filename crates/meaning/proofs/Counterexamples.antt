@@ -2,11 +2,11 @@
 -- are named at `Premises`; `demand3-counts` (Theorem) does without them. Assumes nothing.
 use mathlib.Core.Path.{_≡_, refl}
 use mathlib.Core.Bool.{false, not}
-use mathlib.Core.List.{List, [], _∷_, _++_}
+use mathlib.Core.List.{[], _∷_, _++_}
 use mathlib.Core.Option.{some}
 use Prim.Native.Nat.{ℕ}
 use native.Mathlib.Omega.{arith}
-use Rattle.grammar.specs.Basic.{Bytes, any, sameBytes}
+use Rattle.grammar.specs.Basic.{Bytes, any}
 use Rattle.grammar.specs.Tree.{RepExact, RepMinMax, E, skip, un}
 use Rattle.grammar.specs.Table.{Table, Atomic, wordsOf, find}
 use Rattle.grammar.specs.Lists.{ANY}

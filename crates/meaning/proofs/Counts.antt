@@ -1,7 +1,7 @@
 -- What unroll asks for holds in an accepted table that meets the premise on counts, and rotate and skip keep it. Assumes nothing.
 use mathlib.Core.Path.{_≡_, refl, subst}
 use mathlib.Core.Bool.{Bool, true, false, cond}
-use mathlib.Core.List.{List, [], _∷_}
+use mathlib.Core.List.{[], _∷_}
 use mathlib.Core.Option.{Option, none, some}
 use Prim.Native.Nat.{ℕ, zero, suc}
 use Rattle.grammar.specs.Basic.{Bytes, any, orElse}

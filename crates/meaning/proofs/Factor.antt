@@ -6,7 +6,7 @@ use Prim.Native.Nat.{ℕ}
 use Rattle.grammar.specs.Basic.{Bytes, _>>=_, test}
 use Rattle.grammar.specs.Tree.{Opt, Seq, Choice, E, un, bin, size, asSeq, asChoice, same}
 use Rattle.grammar.specs.Table.{Table}
-use Rattle.grammar.specs.Steps.{orSame, factorCase, factor?, isTight, factor}
+use Rattle.grammar.specs.Steps.{factorCase, factor?, isTight, factor}
 use Rattle.grammar.proofs.Logic.{none-some, some-eq, bind-case, test-true, same-eq}
 use Rattle.grammar.proofs.TopDown.{asSeq-is}
 use Rattle.meaning.specs.Outcome.{Res, fail, ok, Out, seq-go, seq-no, choice-ok, choice-no, opt-ok, opt-no}

@@ -1,16 +1,16 @@
 -- The lifting theorem: from the expressions of each rule to all outcomes under two tables. Assumes nothing.
 use mathlib.Core.Path.{_≡_, refl, sym, subst}
 use mathlib.Core.Bool.{Bool, true, false, cond}
-use mathlib.Core.List.{List, [], _∷_}
-use mathlib.Core.Option.{Option, none, some}
+use mathlib.Core.List.{[], _∷_}
+use mathlib.Core.Option.{some}
 use Prim.Native.Nat.{ℕ}
 use native.Mathlib.Omega.{arith}
 use Rattle.grammar.specs.Basic.{Bytes, sameBytes}
 use Rattle.grammar.specs.Tree.{E}
 use Rattle.grammar.specs.Table.{Rule, Table, find}
-use Rattle.grammar.specs.Steps.{onRule, each}
+use Rattle.grammar.specs.Steps.{each}
 use Rattle.meaning.specs.Outcome.{Res, Out}
-use Rattle.meaning.proofs.Asks.{Ask, ask, Asked, nows, rules, failed, went, by, each-outcome}
+use Rattle.meaning.proofs.Asks.{Ask, Asked, nows, rules, failed, went, by, each-outcome}
 use Rattle.meaning.proofs.Same.{Same, flip}
 
 -- Two tables with the same names in the same order, and R between the expressions of each rule

@@ -1,7 +1,7 @@
 -- Listing's law: the listed form has every success of the loop it replaces, at the same end. Not its failures (Examples, W12). Assumes nothing.
 use mathlib.Core.Path.{_≡_, refl, ap, ap₂, _∙_}
 use mathlib.Core.Bool.{Bool, true, false, true≢false, _||_}
-use mathlib.Core.List.{List, [], _∷_}
+use mathlib.Core.List.{[], _∷_}
 use mathlib.Core.Option.{Option, none, some}
 use Prim.Native.Nat.{ℕ}
 use Rattle.grammar.specs.Basic.{Bytes, any, orElse, test}
@@ -10,7 +10,7 @@ use Rattle.grammar.specs.Table.{Table}
 use Rattle.grammar.specs.Steps.{orSame, list?, list, each}
 use Rattle.grammar.proofs.Logic.{bind-case, test-true, same-eq}
 use Rattle.grammar.proofs.TopDown.{asSeq-is}
-use Rattle.meaning.specs.Outcome.{Res, ok, Out, seq-go, seq-no, rep-go, rep-end}
+use Rattle.meaning.specs.Outcome.{ok, Out, seq-go, seq-no, rep-go, rep-end}
 use Rattle.meaning.specs.Demand3.{Nowhere}
 use Rattle.meaning.proofs.Matcher.{det}
 use Rattle.meaning.proofs.Same.{equal, moved, never}

@@ -1,7 +1,6 @@
 -- The words of an answer, as many as its counts say, stand for its table. Assumes nothing.
-use mathlib.Core.Path.{_≡_, refl, ap₂, _∙_}
-use mathlib.Core.List.{List, [], _∷_, _++_}
-use mathlib.Core.Option.{some}
+use mathlib.Core.Path.{_≡_, refl, _∙_}
+use mathlib.Core.List.{List, [], _∷_}
 use Prim.Native.Nat.{ℕ, _+_, _*_}
 use native.Mathlib.Omega.{arith}
 use lib.ListN.{length, take, drop, length-append}
@@ -11,9 +10,9 @@ use Rattle.grammar.specs.Tree.{E, lit, fixed, skip, un, bin}
 use Rattle.grammar.specs.Rows.{Span, flat}
 use Rattle.grammar.specs.Text.{resolve}
 use Rattle.grammar.specs.Table.{Table, Words, ruleWords, rowWords, rowCount, tableText, ruleText, packedRule, packedFrom, wordsOf, resolveTable}
-use Rattle.grammar.specs.Reading.{Kinds, readTable, inputKinds}
+use Rattle.grammar.specs.Reading.{inputKinds}
 use Rattle.grammar.specs.Steps.{each}
-use Rattle.grammar.specs.Optimize.{answer, finished, over, overWords}
+use Rattle.grammar.specs.Optimize.{answer, finished, over}
 use Rattle.grammar.proofs.Words.{StrsAllowed, Allowed, AllowedTable, flat-length}
 use Rattle.grammar.proofs.Packing.{packed-size, table-resolved, words-back}
 use Rattle.meaning.specs.Demand3.{StandFor, allKinds, returned}

@@ -8,10 +8,10 @@ use native.Mathlib.Omega.{arith}
 use lib.ListN.{length, getElem?}
 use lib.Dec.{leb, leb·suc-zero}
 use Rattle.grammar.specs.Basic.{Bytes, sameBytes, member, test}
-use Rattle.grammar.specs.Tree.{Lit, Str, Insens, Ident, Range, NegPred, Rep, Seq, Choice, E, lit, fixed, skip, un, bin, size, asIdent, asNegPred, asRep, asSeq}
+use Rattle.grammar.specs.Tree.{Lit, Str, Insens, Ident, NegPred, Rep, Seq, Choice, E, lit, fixed, skip, un, bin, size, asIdent, asNegPred, asRep, asSeq}
 use Rattle.grammar.specs.Table.{Table, find}
 use Rattle.grammar.specs.Lists.{Reading, nothing, strings, again, andThen, readLit, readIn, readFound, readName, skipList, ANY, loopOver, asStrings}
-use Rattle.grammar.specs.Steps.{children, topDownIn, orSame, isAtomic, rotateAt, rotate, skip?, skipTo, each}
+use Rattle.grammar.specs.Steps.{children, topDownIn, orSame, isAtomic, rotate, skip?, skipTo, each}
 use Rattle.grammar.proofs.Logic.{none-some, some-eq, bind-case, test-true, sameBytes-eq}
 use Rattle.grammar.proofs.TopDown.{asSeq-is}
 use Rattle.meaning.specs.Outcome.{Res, fail, ok, passes, within, oneOf, loopOf, Out, range, any, call, choice-ok, choice-no, skips}

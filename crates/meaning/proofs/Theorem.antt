@@ -33,7 +33,7 @@ use Rattle.meaning.proofs.Returned.{given-allowed, each-allowed, words-
 always : (f : ℕ → E → E) → ((t : Table Bytes) (s : Bytes) (y : ℕ) (e : E) → Same t s e (f y e)) → (t : Table Bytes) (s : Bytes) → Keeps t (each f t) s
 always f h t s = each-keeps f (λ e. Unit {0}) (λ t s y e x. h t s y e) t s (anything t)
 
-five-keeps : (t : Table Bytes) → Plain t → All Counted t → (s : Bytes) → Keeps t (after 5 t) s
+pub five-keeps : (t : Table Bytes) → Plain t → All Counted t → (s : Bytes) → Keeps t (after 5 t) s
 unfolding after
 five-keeps t plain c s =
     always (λ _. rotate) (λ t s y e. rotate-same e) t s
@@ -71,7 +71,7 @@ unfolding after
 seven-allowed t h =
     each-allowed (λ _. restore (after 6 t)) (after 6 t) (each-allowed (λ _. list) (after 5 t) (each-allowed factor (after 4 t) (each-allowed concatenate (after 3 t) (each-allowed (λ _. unroll) (after 2 t) (each-allowed (skipTo t) (after 1 t) (each-allowed (λ _. rotate) t h))))))
 
--- with the one premise that it needs
+-- with the one premise that its proof uses
 pub demand3-counts : (in′ out a b : Words) (marks : List ℕ) (t : Table Bytes) → optimize in′ out a b marks .number ≡ 0 → StandFor inputKinds in′ t → Nowhere crossed t → Demand3 t (optimize in′ out a b marks)
 unfolding optimize
 demand3-counts in′ out a b marks t zero w counts =

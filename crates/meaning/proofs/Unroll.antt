@@ -1,15 +1,15 @@
 -- Unroll's law: a counted repeat is its items in a row, where a count of 0 is refused and no minimum is above its maximum. Assumes nothing.
-use mathlib.Core.Path.{_≡_, refl, sym, ap, _∙_}
-use mathlib.Core.Bool.{Bool, true, false, true≢false}
+use mathlib.Core.Path.{_≡_, refl, ap}
+use mathlib.Core.Bool.{false, true≢false}
 use mathlib.Core.List.{List, [], _∷_, _++_, append-nil}
-use Prim.Native.Nat.{ℕ, zero, suc, pred, _+_, _-_, _≤_, _<_, min}
+use Prim.Native.Nat.{ℕ, zero, suc, _+_, _-_, _≤_, _<_, min}
 use native.Mathlib.Omega.{arith}
 use lib.ListN.{length, replicate, length-append, length-replicate}
 use lib.Dec.{eqb, ltb, nltb→le}
 use Rattle.grammar.specs.Basic.{Bytes}
 use Rattle.grammar.specs.Tree.{Un, PosPred, NegPred, Opt, Rep, RepOnce, Push, RestoreOnErr, RepExact, RepMin, RepMax, RepMinMax, Seq, E, lit, fixed, skip, un, bin}
 use Rattle.grammar.specs.Table.{Table}
-use Rattle.grammar.specs.Steps.{nest, unrolled, unrollAt, unroll}
+use Rattle.grammar.specs.Steps.{nest, unrolled, unroll}
 use Rattle.grammar.specs.Refusals.{zeroUn}
 use Rattle.meaning.specs.Outcome.{Res, fail, ok, Out, seq-go, seq-no, opt-ok, opt-no, count-go, count-end, count-max, exact, at-most, min-go, min-no, min-rep, once}
 use Rattle.meaning.specs.Demand3.{crossedUn}

@@ -1,7 +1,7 @@
 -- Small inversions: what a failed test says, and that a node which a view takes apart is a node of that kind. Assumes nothing.
 use mathlib.Core.Path.{_≡_, refl}
 use mathlib.Core.Bool.{true≢false, false≢true, Bool, true, false, _||_, cond}
-use mathlib.Core.Option.{Option, some, none}
+use mathlib.Core.Option.{some, none}
 use Prim.Native.Nat.{ℕ}
 use Rattle.grammar.specs.Basic.{Bytes}
 use Rattle.grammar.specs.Tree.{Lit, Str, Insens, Ident, Un, PosPred, NegPred, Opt, Rep, RepOnce, Push, RestoreOnErr, RepExact, RepMin, RepMax, RepMinMax, Seq, Choice, E, lit, fixed, skip, un, bin, isUn, litKind, litAt, unAt, asNegPred, asRep, asChoice}

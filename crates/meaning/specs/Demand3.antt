@@ -1,14 +1,14 @@
 -- Demand 3, in the customer's words: what an accepted grammar has to meet, and what is then certain. Assumes nothing.
 use mathlib.Core.Path.{_≡_}
-use mathlib.Core.Bool.{Bool, true, false, not}
-use mathlib.Core.List.{List, [], _∷_}
-use mathlib.Core.Option.{Option, some}
+use mathlib.Core.Bool.{Bool, true, false, _&&_, not}
+use mathlib.Core.List.{[], _∷_}
+use mathlib.Core.Option.{some}
 use mathlib.Core.Logic.{_↔_}
 use Prim.Native.Nat.{ℕ, _*_}
 use lib.ListN.{take, getD}
 use lib.Dec.{ltb}
 use Rattle.grammar.specs.Basic.{Bytes, any, member, sameBytes}
-use Rattle.grammar.specs.Tree.{Lit, Str, Insens, Ident, Fixed, Range, PeekSlice, PeekFrom, Un, PosPred, NegPred, Opt, Rep, RepOnce, Push, RestoreOnErr, RepExact, RepMin, RepMax, RepMinMax, E, lit, fixed, skip, un, bin, isUn, anyNode}
+use Rattle.grammar.specs.Tree.{Str, Insens, Ident, Range, PeekSlice, PeekFrom, Un, E, lit, fixed, skip, un, bin, isUn, unHead, anyNode}
 use Rattle.grammar.specs.Rows.{Span}
 use Rattle.grammar.specs.Table.{Table, Words, resolveTable, find}
 use Rattle.grammar.specs.Reading.{Kinds, readTable}
@@ -54,12 +54,15 @@ unknown t (skip ss) = false
 unknown t (un u e) = false
 unknown t (bin b l r) = false
 
+abbrev pub ofUn : (Un → Bool) → E → Bool
+ofUn test (lit k w) = false
+ofUn test (fixed f) = false
+ofUn test (skip ss) = false
+ofUn test (un u e) = test u
+ofUn test (bin b l r) = false
+
 abbrev pub isPush : E → Bool
-isPush (lit k w) = false
-isPush (fixed f) = false
-isPush (skip ss) = false
-isPush (un u e) = isUn 18 u
-isPush (bin b l r) = false
+isPush e = ofUn (isUn 18) e
 
 abbrev pub isPeek : E → Bool
 isPeek (lit k w) = false
@@ -70,29 +73,15 @@ isPeek (skip ss) = false
 isPeek (un u e) = false
 isPeek (bin b l r) = false
 
--- a minimum above its maximum
+-- a minimum above its maximum: of a RepMinMax, kind 16, they are x and y
 abbrev pub crossedUn : Un → Bool
-crossedUn PosPred = false
-crossedUn NegPred = false
-crossedUn Opt = false
-crossedUn Rep = false
-crossedUn RepOnce = false
-crossedUn Push = false
-crossedUn RestoreOnErr = false
-crossedUn (RepExact n) = false
-crossedUn (RepMin n) = false
-crossedUn (RepMax n) = false
-crossedUn (RepMinMax m n) = ltb n m
+crossedUn u = isUn 16 u && ltb (unHead u .2) (unHead u .1)
 
 abbrev pub crossed : E → Bool
-crossed (lit k w) = false
-crossed (fixed f) = false
-crossed (skip ss) = false
-crossed (un u e) = crossedUn u
-crossed (bin b l r) = false
+crossed e = ofUn crossedUn e
 
--- Of these the proof uses `counts` alone (Counterexamples: why). The others the model does not need: it has no implicit whitespace, so that
--- types are of no account, and a name of no rule, a Push and a PeekSlice have no outcome, before and after
+-- The proof uses `counts` alone, and of "accepted" refusals 5 and 6 (Counterexamples: it has to). The other premises the model does not need:
+-- without implicit whitespace a rule's type is of no account, and a name of no rule, a Push and a PeekSlice have no outcome, before and after
 pub record Premises (t : Table Bytes) : Type 0 where
   -- "every rule Atomic or CompoundAtomic"
   pub types : any (λ r. not (isTight (r .type))) t ≡ false

@@ -99,5 +99,5 @@ pub data Out (t : Table Bytes) (s : Bytes) : E → ℕ → Res → Type 0 where
   once : {e : E} {p : ℕ} {r : Res} → Out t s (un (RepMin (suc zero)) e) p r → Out t s (un RepOnce e) p r
   -- "Skip is (!(s1|..|sk) ~ ANY)*"
   skips : {ss : List Bytes} {p : ℕ} {r : Res} → Out t s (loopOf ss) p r → Out t s (skip ss) p r
-  -- RestoreOnErr, "in answers only", gives what its child gives: what it puts back is the stack
+  -- RestoreOnErr, "in answers only", "restores an expression's checkpoint" (the source), the stack's: it gives what its child gives
   restored : {e : E} {p : ℕ} {r : Res} → Out t s e p r → Out t s (un RestoreOnErr e) p r
