@@ -11,7 +11,7 @@ use Rattle.grammar.specs.Steps.{orSame, list?, list, each}
 use Rattle.grammar.proofs.Logic.{bind-case, test-true, same-eq}
 use Rattle.grammar.proofs.TopDown.{asSeq-is}
 use Rattle.meaning.specs.Outcome.{ok, Out, seq-go, seq-no, rep-go, rep-end}
-use Rattle.meaning.specs.Demand3.{Nowhere}
+use Rattle.meaning.specs.Demand3.{after, Nowhere}
 use Rattle.meaning.proofs.Matcher.{det}
 use Rattle.meaning.proofs.Same.{equal, moved, never}
 use Rattle.meaning.proofs.Views.{neither, asRep-is}
@@ -73,8 +73,12 @@ list-still (bin b l r) h =
     let v = neither (anyNode fires l) (anyNode fires r) (q .1) in
     ap₂ (λ (x y : E). orSame list? (bin b x y)) (list-still l (v .0)) (list-still r (v .1)) ∙ unfired (bin b l r) (q .0)
 
-pub lists-nowhere : (t : Table Bytes) → Nowhere fires t → each (λ _. list) t ≡ t
+lists-nowhere : (t : Table Bytes) → Nowhere fires t → each (λ _. list) t ≡ t
 lists-nowhere [] h = refl
 lists-nowhere (r ∷ t) h =
     let q = neither (anyNode fires (r .body)) (any (λ r. anyNode fires (r .body)) t) h in
     ap₂ (λ (e : E) (u : Table Bytes). record { name = r .name; type = r .type; body = e } ∷ u) (list-still (r .body) (q .0)) (lists-nowhere t (q .1))
+
+pub fires-nowhere : (t : Table Bytes) → Nowhere fires (after 5 t) → after 6 t ≡ after 5 t
+unfolding after
+fires-nowhere t h = lists-nowhere (after 5 t) h
