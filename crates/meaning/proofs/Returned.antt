@@ -1,5 +1,5 @@
 -- The words of an answer, as many as its counts say, stand for its table. Assumes nothing.
-use mathlib.Core.Path.{_≡_, refl, _∙_}
+use mathlib.Core.Path.{_≡_, refl, ap, ap₂, _∙_}
 use mathlib.Core.List.{List, [], _∷_}
 use Prim.Native.Nat.{ℕ, _+_, _*_}
 use native.Mathlib.Omega.{arith}
@@ -10,7 +10,7 @@ use Rattle.grammar.specs.Tree.{E, lit, fixed, skip, un, bin}
 use Rattle.grammar.specs.Rows.{Span, flat}
 use Rattle.grammar.specs.Text.{resolve}
 use Rattle.grammar.specs.Table.{Table, Words, ruleWords, rowWords, rowCount, tableText, ruleText, packedRule, packedFrom, wordsOf, resolveTable}
-use Rattle.grammar.specs.Reading.{inputKinds}
+use Rattle.grammar.specs.Reading.{readTable, inputKinds}
 use Rattle.grammar.specs.Steps.{each}
 use Rattle.grammar.specs.Optimize.{answer, finished, over}
 use Rattle.grammar.proofs.Words.{StrsAllowed, Allowed, AllowedTable, flat-length}
@@ -55,6 +55,6 @@ words-stand out report t a =
     let w : Words = wordsOf t in
     record {
       spans = packedFrom 0 t;
-      read = rw (front (4 * length t) (w .rules) (out .rules) (rules-length 0 t), front (4 * rowCount t) (w .rows) (out .rows) (rows-length 0 t)) (words-back allKinds t a);
-      means = rw (front (length (tableText t)) (w .text) (out .text) refl) (table-resolved t);
+      read = ap₂ (readTable allKinds) (front (4 * length t) (w .rules) (out .rules) (rules-length 0 t)) (front (4 * rowCount t) (w .rows) (out .rows) (rows-length 0 t)) ∙ words-back allKinds t a;
+      means = ap (λ (text : Bytes). resolveTable text (packedFrom 0 t)) (front (length (tableText t)) (w .text) (out .text) refl) ∙ table-resolved t;
     }
