@@ -1,0 +1,2 @@
+-- Laws of concatenation.
+pub mod Concats

@@ -1,0 +1,2 @@
+-- Laws of rotation.
+pub mod Rotations
