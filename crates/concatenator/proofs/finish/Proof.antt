@@ -1,119 +1,100 @@
+-- `finish` meets its contract: by the two roots that it reads, one literal's row or the node's own. Assumes nothing.
+use mathlib.Core.Path.{_≡_, refl, sym, _∙_}
+use Prim.Native.Nat.{_-_}
+use native.Mathlib.Omega.{arith}
+use Rattle.rows.proofs.Laws.{Found, row-found, row-there}
+use Rattle.concatenator.proofs.Ends.{ends-lit, ends-row}
 use borrow.Author.Needs.{needs}
 use Rattle.concatenator.proofs.finish.Statement.{statement}
 use Rattle.concatenator.proofs.finish.Tie as tie
-use Rattle.concatenator.proofs.finish.Reads as reads
-use Rattle.concatenator.proofs.finish.Lts as lts
-use Rattle.concatenator.proofs.joins.Reads as joins-reads
-use Rattle.rows.proofs.row_at.Reads as row-at-reads
-use Rattle.writing.proofs.set_row.Reads as set-row-reads
 
--- src/lib.rt:30:17
+-- the rows that were read
+first-read : (c : tie.After-known-told) → let k = c .before .a .given .0 in Found (c .before .before .before .before .before .before .before .before .args .out .now) (c .before .before .before .before .before .before .before .before .args .q .rows - 1) (k .0) (k .1 .0) (k .1 .1 .0) (k .1 .1 .1 .0)
+first-read c = row-found (sym (c .before .before .before .row-at .ensures) ∙ c .before .a .given .1)
+
+second-read : (c : tie.After-known-told2) → let k = c .before .b .given .0 in Found (c .before .before .before .before .before .before .before .before .before .before .before .before .before .args .out .now) (c .before .before .before .before .before .before .before .before .before .before .before .before .before .args .s .rows - 1) (k .0) (k .1 .0) (k .1 .1 .0) (k .1 .1 .1 .0)
+second-read c = row-found (sym (c .before .before .before .row-at2 .ensures) ∙ c .before .b .given .1)
+
 sub-first : tie.Need-sub-first
 sub-first c = search needs
 
--- src/lib.rt:31:18
 sub-second : tie.Need-sub-second
 sub-second c = search needs
 
--- src/lib.rt:37:9
 row-at-requires : tie.Need-row-at-requires
 row-at-requires c κs = search needs
 
--- src/lib.rt:33:15
 enum-known-a : tie.Need-enum-known-a
 enum-known-a c = search needs
 
--- src/lib.rt:39:9
 enum-told : tie.Need-enum-told
 enum-told c = search needs
 
--- src/lib.rt:39:9
 same-length : tie.Need-same-length
 same-length c = search needs
 
--- src/lib.rt:39:9
 returns : tie.Need-returns
-returns c = ?
+returns c = absurd (row-there _ _ (omega arith) (sym (c .before .before .row-at .ensures) ∙ c .enum-told .given .1))
 
--- src/lib.rt:46:9
 row-at-requires-2 : tie.Need-row-at-requires-2
 row-at-requires-2 c κs = search needs
 
--- src/lib.rt:42:15
 enum-known-b : tie.Need-enum-known-b
 enum-known-b c = search needs
 
--- src/lib.rt:48:9
 enum-told-2 : tie.Need-enum-told-2
 enum-told-2 c = search needs
 
--- src/lib.rt:48:9
 same-length-2 : tie.Need-same-length-2
 same-length-2 c = search needs
 
--- src/lib.rt:48:9
 returns-2 : tie.Need-returns-2
-returns-2 c = ?
+returns-2 c = absurd (row-there _ _ (omega arith) (sym (c .before .before .row-at2 .ensures) ∙ c .enum-told2 .given .1))
 
--- src/lib.rt:54:8
 joins-requires : tie.Need-joins-requires
 joins-requires c κs = search needs
 
--- src/lib.rt:55:40
 cast-set-row : tie.Need-cast-set-row
 cast-set-row c = search needs
 
--- src/lib.rt:55:52
 sub-set-row : tie.Need-sub-set-row
 sub-set-row c = search needs
 
--- src/lib.rt:55:51
 cast-set-row-2 : tie.Need-cast-set-row-2
 cast-set-row-2 c = search needs
 
--- src/lib.rt:55:9
 set-row-requires : tie.Need-set-row-requires
 set-row-requires c κs = search needs
 
--- src/lib.rt:57:19
 add-t26 : tie.Need-add-t26
 add-t26 c = search needs
 
--- src/lib.rt:61:49
 sub-set-row-2 : tie.Need-sub-set-row-2
 sub-set-row-2 c = search needs
 
--- src/lib.rt:61:49
 add-set-row : tie.Need-add-set-row
 add-set-row c = search needs
 
--- src/lib.rt:61:48
 cast-set-row-3 : tie.Need-cast-set-row-3
 cast-set-row-3 c = search needs
 
--- src/lib.rt:61:9
 set-row-requires-2 : tie.Need-set-row-requires-2
 set-row-requires-2 c κs = search needs
 
--- src/lib.rt:63:19
 add-t32 : tie.Need-add-t32
 add-t32 c = search needs
 
--- src/lib.rt:26:1
 same-length-3 : tie.Need-same-length-3
 same-length-3 c = search needs
 
--- src/lib.rt:26:1
 returns-3 : tie.Need-returns-3
-returns-3 c = ?
+returns-3 c = ends-lit (first-read (c .before .before .before .before .before .before .before .before .before .before .before)) (second-read (c .before .before .before .before .before .before)) (c .before .before .before .before .before .before .before .before .before .before .before .before .before .before .before .before .before .before .before .args .kind) (c .before .before .before .before .before .joins .ensures) _ _ _ _ (c .before .before .before .before .if1 .taken) (record { rows = refl; text = refl; words = c .before .before .set-row .ensures })
 
--- src/lib.rt:26:1
 same-length-4 : tie.Need-same-length-4
 same-length-4 c = search needs
 
--- src/lib.rt:26:1
 returns-4 : tie.Need-returns-4
-returns-4 c = ?
+returns-4 c = ends-row (first-read (c .before .before .before .before .before .before .before .before .before .before .before)) (second-read (c .before .before .before .before .before .before)) (c .before .before .before .before .before .before .before .before .before .before .before .before .before .before .before .before .before .before .before .args .kind) (c .before .before .before .before .before .joins .ensures) _ _ _ _ (c .before .before .before .before .if1 .left) (record { rows = refl; text = refl; words = c .before .before .set-row2 .ensures })
 
 pub finish-spec : {M : Type 1} → statement M
 finish-spec =

@@ -1,19 +1,20 @@
+-- `joins` meets its contract: the tests that led to each answer. Assumes nothing.
+use borrow.Author.Tests.{lt-ltb, le-ltb, eq-eqb, ne-eqb}
+use Rattle.concatenator.specs.Joins.{joinsOf}
 use Rattle.concatenator.proofs.joins.Statement.{statement}
 use Rattle.concatenator.proofs.joins.Tie as tie
-use Rattle.concatenator.proofs.joins.Reads as reads
-use Rattle.concatenator.proofs.joins.Lts as lts
 
--- src/lib.rt:17:9
 returns : tie.Need-returns
-returns c = ?
+unfolding joinsOf
+returns c = simp (ne-eqb _ _ (c .if1 .taken))
 
--- src/lib.rt:20:9
 returns-2 : tie.Need-returns-2
-returns-2 c = ?
+unfolding joinsOf
+returns-2 c = simp (eq-eqb _ _ (c .before .if1 .left), lt-ltb _ _ (c .if2 .taken))
 
--- src/lib.rt:13:1
 returns-3 : tie.Need-returns-3
-returns-3 c = ?
+unfolding joinsOf
+returns-3 c = simp (eq-eqb _ _ (c .before .if1 .left), le-ltb _ _ (c .if2 .left))
 
 pub joins-spec : {M : Type 1} → statement M
 joins-spec = tie.close (tie.spec returns returns-2 returns-3)
