@@ -1,9 +1,10 @@
 -- A subtree that was read is concatenated by what its children's calls answer. Assumes nothing.
-use mathlib.Core.Path.{_≡_, refl, sym, ap, _∙_}
+use mathlib.Core.Path.{_≡_, refl, sym, ap, subst, _∙_}
 use mathlib.Core.Bool.{Bool, true, false, cond}
 use mathlib.Core.List.{List, _++_, append-assoc}
 use Prim.Native.Nat.{ℕ, _+_, _-_, _*_, _/_, _≤_, _<_}
 use native.Mathlib.Omega.{arith}
+use borrow.Author.Tests.{ne-eqb}
 use lib.ListN.{length, take, length-append}
 use lib.Seq.{length-take-le}
 use Rattle.grammar.specs.Basic.{Bytes}
@@ -110,3 +111,15 @@ module _ (t : Bytes) {w : List ℕ} {i k x y n : ℕ} {r : Expr Span} (v : TwoVi
     two-kept a o₃ g =
         rw (v .is, concat-bin (v .op) (resolve t (v .left)) (resolve t (v .right)))
         (end-kept c d (omega (arith, node-fits .rows)) (omega (arith, second-fits .rows)) rows-left a (v .op) o₃ (rw (v .kind) at g))
+
+-- by a rule's type
+pub concat-atomic : (type : ℕ) → type ≡ 2 → (e : E) → concatenate Atomic e ≡ concatenate type e
+concat-atomic type h e = rw h
+
+pub concat-other : (type : ℕ) → (type ≡ 2 → ⊥) → (e : E) → concatenate type e ≡ e
+unfolding concatenate
+concat-other type h e = rw (ne-eqb type 2 h)
+
+-- an answer for an equal tree
+pub kept-same : (a : Wrote) (p : Place) (e f : E) (o o′ b b′ : List ℕ) → e ≡ f → KeptAnswer a p e o o′ b b′ → KeptAnswer a p f o o′ b b′
+kept-same a p e f o o′ b b′ h w = subst (λ (z : E). KeptAnswer a p z o o′ b b′) h w
