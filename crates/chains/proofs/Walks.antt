@@ -1,24 +1,23 @@
--- A walk over a subtree by a step that cannot grow: what falls, what is ready for the children, what is left as it was. Assumes nothing.
-use mathlib.Core.Path.{_≡_, sym, subst, _∙_}
+-- A walk over a subtree by a step that cannot grow: what falls, what is left as it was, and a root's row after its child. Assumes nothing.
+use mathlib.Core.Path.{_≡_, sym, subst}
 use mathlib.Core.List.{List}
 use Prim.Native.Nat.{ℕ, _+_, _-_, _*_, _/_, _≤_, _<_}
 use native.Mathlib.Omega.{arith}
 use lib.ListN.{length}
 use Rattle.grammar.specs.Basic.{Bytes}
-use Rattle.grammar.specs.Tree.{E, Expr, un, bin, unHead, size}
+use Rattle.grammar.specs.Tree.{E, Expr, un, size}
 use Rattle.grammar.specs.Rows.{Span}
-use Rattle.grammar.specs.Text.{resolve, textOf}
+use Rattle.grammar.specs.Text.{resolve}
 use Rattle.rows.specs.declared.Shape.{Shape}
 use Rattle.rows.specs.declared.Shape.the-variants.{Lit, Num, One, Two, Skips}
 use Rattle.rows.specs.Rows.{At, sizeAt, shapeOf}
 use Rattle.rows.proofs.Laws.{Found, root}
-use Rattle.rows.proofs.Views.{OneView, TwoView, shapeIn, found-shape}
+use Rattle.rows.proofs.Views.{OneView, TwoView, shapeIn, found-shape, left-at}
 use Rattle.writing.specs.declared.Place.{Place}
 use Rattle.writing.specs.declared.Wrote.{Wrote}
 use Rattle.writing.specs.declared.Wrote.the-variants.{Done, Full}
 use Rattle.writing.specs.Writes.{Fits, RowAnswer}
-use Rattle.writing.specs.Keeps.{Kept, KeptAnswer, Ready}
-use Rattle.writing.proofs.Trees.{fits-un, fits-left}
+use Rattle.writing.specs.Keeps.{Kept, KeptAnswer}
 use Rattle.writing.proofs.Keeps.{kept-un, row-room}
 
 -- ---- the size word falls
@@ -30,26 +29,8 @@ module _ {w : List ℕ} {i k x y n : ℕ} {r : Expr Span} (g : Found w i k x y n
   pub right-falls : TwoView w i k x y n r → sizeAt w (i - 1) < sizeAt w i
   right-falls v = omega (arith, g .rows, v .rows, v .leastLeft, root (v .atRight) .rows)
 
--- the left child's place, found by the right one's size
-module _ {w : List ℕ} {i k x y n : ℕ} {r : Expr Span} (v : TwoView w i k x y n r) (m : ℕ) (e : m ≡ size (v .right)) where
-  pub left-at : At w (i - 1 - m) (v .left)
-  left-at = rw e (v .atLeft)
-
-  pub left-falls : Found w i k x y n → sizeAt w (i - 1 - m) < sizeAt w i
-  left-falls g = omega (arith, g .rows, v .rows, v .leastRight, root left-at .rows)
-
--- ---- a child's call
-
-module _ {w : List ℕ} {t : Bytes} {i k x y n : ℕ} {p : Place} {o b : List ℕ} (d : Ready w t i p o b) where
-  pub one-ready : OneView w i k x y n (d .tree) → Ready w t (i - 1) p o b
-  one-ready v =
-      let h : Fits p (un (v .op) (resolve t (v .child))) o b = rw (v .is) at (d .fits) in
-      record { tree = v .child; at = v .at; fits = fits-un h }
-
-  pub left-ready : (v : TwoView w i k x y n (d .tree)) (m : ℕ) → m ≡ size (v .right) → Ready w t (i - 1 - m) p o b
-  left-ready v m e =
-      let h : Fits p (bin (v .op) (resolve t (v .left)) (resolve t (v .right))) o b = rw (v .is) at (d .fits) in
-      record { tree = v .left; at = left-at v m e; fits = fits-left h }
+  pub left-falls : (v : TwoView w i k x y n r) (m : ℕ) → m ≡ size (v .right) → sizeAt w (i - 1 - m) < sizeAt w i
+  left-falls v m e = omega (arith, g .rows, v .rows, v .leastRight, root (left-at v m e) .rows)
 
 -- ---- leaves are left as they were
 
@@ -75,4 +56,4 @@ module _ (f : E → E) (rows-f : (e : E) → size (f e) ≤ size e) (t : Bytes) 
   pub one-kept : (a : Wrote) (m : ℕ) (o₂ : List ℕ) → m ≡ size (f (resolve t (v .child))) + 1 → f (un (v .op) (resolve t (v .child))) ≡ un (v .op) (f (resolve t (v .child)))
       → RowAnswer a q (k, x, y) m o₁ o₂ → KeptAnswer a p (f (resolve t r)) o o₂ b b₁
   one-kept Full m o₂ l e g = absurd (g one-room)
-  one-kept (Done a) m o₂ l e g = rw (v .is, e) (kept-un c (v .op) m l (rw (v .head) at g))
+  one-kept (Done a) m o₂ l e g = rw (v .is, e) (kept-un c (v .op) (k, x, y) m (v .head) l g)

@@ -76,7 +76,7 @@ module _ {p q s : Place} {e f : E} {o o₁ o₂ b b₁ b₂ : List ℕ} (w : Kep
           words = rw (x .words) (take-stored o₂ _ (p .rows * 4) (a .rows * 4) (omega (arith, x .rows)) (omega (arith, x .rows, v .rows, w .rows)) ∙ rw (front-words, n, join-kind (binKind c) (kindIn e) (kindIn f) h));
           bytes = rw (x .text) both-bytes;
         }
-    ended-kept false a c o₃ h x = kept-bin w v c (s .rows - p .rows + 1) (omega (arith, w .rows, v .rows)) (row-set a s (binKind c, 0, 0) (s .rows - p .rows + 1) o₂ o₃ room (x .rows) (x .text) (x .words))
+    ended-kept false a c o₃ h x = kept-bin w v c (binKind c, 0, 0) (s .rows - p .rows + 1) refl (omega (arith, w .rows, v .rows)) (row-set a s (binKind c, 0, 0) (s .rows - p .rows + 1) o₂ o₃ room (x .rows) (x .text) (x .words))
 
     pub end-kept : (a : Wrote) (c : Bin) (o₃ : List ℕ) → EndAnswer a (joinsOf (binKind c) (kindAt o₂ (q .rows - 1)) (kindAt o₂ (s .rows - 1))) p s (binKind c) (kindAt o₂ (q .rows - 1)) o₂ o₃
         → KeptAnswer a p (joined c e f) o o₃ b b₂

@@ -9,10 +9,10 @@ use Rattle.grammar.specs.Table.{Atomic}
 use Rattle.grammar.specs.Steps.{concatenate}
 use Rattle.rows.specs.Rows.{At, sizeAt}
 use Rattle.rows.proofs.Laws.{Found, found-size, row-found, root-there}
-use Rattle.rows.proofs.Views.{OneView, TwoView, as-one, as-two}
+use Rattle.rows.proofs.Views.{OneView, TwoView, as-one, as-two, left-at}
 use Rattle.writing.specs.Keeps.{Kept}
-use Rattle.writing.proofs.Keeps.{kept-done, kept-full, ready-fits}
-use Rattle.chains.proofs.Walks.{one-falls, right-falls, left-falls, left-at, one-ready, left-ready, leaf-kept, one-room, one-kept}
+use Rattle.writing.proofs.Keeps.{kept-done, kept-full, ready-fits, ready-child, ready-left}
+use Rattle.chains.proofs.Walks.{one-falls, right-falls, left-falls, leaf-kept, one-room, one-kept}
 use Rattle.concatenator.proofs.Concats.{concat-un, concat-size}
 use Rattle.concatenator.proofs.Nodes.{concat-leaf, second-fits, two-order, two-kept}
 use borrow.Author.Needs.{needs}
@@ -112,7 +112,7 @@ bottom-up-sub-bottom-up : (t : ℕ) → bottom-up-lts.Need-sub-bottom-up (calls-
 bottom-up-sub-bottom-up t c = let d = c .before .before .before .before .before .before .before .before .before .before .before .pre .1 .1 .0 in let v = one-view t (c) (d .tree) (d .at) in omega (arith, v .least, v .most)
 
 bottom-up-bottom-up-requires : (t : ℕ) → bottom-up-lts.Need-bottom-up-requires (calls-bottom-up t) (bottom-up-at t) bottom-up.Post
-bottom-up-bottom-up-requires t c κs = let d = c .before .before .before .before .before .before .before .before .before .before .before .before .before .pre .1 .1 .0 in let v = one-view t (c .before .before) (d .tree) (d .at) in (omega (arith, c .before .before .before .before .before .before .before .before .before .before .before .before .before .pre .0, one-falls (read t (c .before .before .before .before .before)) v), (c .before .before .before .before .before .before .before .before .before .before .before .before .before .pre .1 .0, (one-ready d v, c .before .before .before .before .before .before .before .before .before .before .before .before .before .pre .1 .1 .1)))
+bottom-up-bottom-up-requires t c κs = let d = c .before .before .before .before .before .before .before .before .before .before .before .before .before .pre .1 .1 .0 in let v = one-view t (c .before .before) (d .tree) (d .at) in (omega (arith, c .before .before .before .before .before .before .before .before .before .before .before .before .before .pre .0, one-falls (read t (c .before .before .before .before .before)) v), (c .before .before .before .before .before .before .before .before .before .before .before .before .before .pre .1 .0, (ready-child (c .before .before .before .before .before .before .before .before .before .before .before .before .before .args .text .now) v (d .fits), c .before .before .before .before .before .before .before .before .before .before .before .before .before .pre .1 .1 .1)))
 
 bottom-up-enum-known-q : (t : ℕ) → bottom-up-lts.Need-enum-known-q (calls-bottom-up t) (bottom-up-at t) bottom-up.Post
 bottom-up-enum-known-q t c = search needs
@@ -166,7 +166,7 @@ bottom-up-sub-bottom-up-2 : (t : ℕ) → bottom-up-lts.Need-sub-bottom-up-2 (ca
 bottom-up-sub-bottom-up-2 t c = let d = c .before .before .before .before .before .before .before .before .before .before .before .before .before .before .before .pre .1 .1 .0 in let v = two-view t (c .before .before .before .before) (d .tree) (d .at) in let e = found-size (right-read t (c)) (v .atRight) in omega (arith, v .most, v .leastLeft, e)
 
 bottom-up-bottom-up-requires-2 : (t : ℕ) → bottom-up-lts.Need-bottom-up-requires-2 (calls-bottom-up t) (bottom-up-at t) bottom-up.Post
-bottom-up-bottom-up-requires-2 t c κs = let d = c .before .before .before .before .before .before .before .before .before .before .before .before .before .before .before .before .before .pre .1 .1 .0 in let v = two-view t (c .before .before .before .before .before .before) (d .tree) (d .at) in let e = found-size (right-read t (c .before .before)) (v .atRight) in (omega (arith, c .before .before .before .before .before .before .before .before .before .before .before .before .before .before .before .before .before .pre .0, left-falls v _ e (read t (c .before .before .before .before .before .before .before .before .before))), (c .before .before .before .before .before .before .before .before .before .before .before .before .before .before .before .before .before .pre .1 .0, (left-ready d v _ e, c .before .before .before .before .before .before .before .before .before .before .before .before .before .before .before .before .before .pre .1 .1 .1)))
+bottom-up-bottom-up-requires-2 t c κs = let d = c .before .before .before .before .before .before .before .before .before .before .before .before .before .before .before .before .before .pre .1 .1 .0 in let v = two-view t (c .before .before .before .before .before .before) (d .tree) (d .at) in let e = found-size (right-read t (c .before .before)) (v .atRight) in (omega (arith, c .before .before .before .before .before .before .before .before .before .before .before .before .before .before .before .before .before .pre .0, left-falls (read t (c .before .before .before .before .before .before .before .before .before)) v _ e), (c .before .before .before .before .before .before .before .before .before .before .before .before .before .before .before .before .before .pre .1 .0, (ready-left (c .before .before .before .before .before .before .before .before .before .before .before .before .before .before .before .before .before .args .text .now) v _ e (d .fits), c .before .before .before .before .before .before .before .before .before .before .before .before .before .before .before .before .before .pre .1 .1 .1)))
 
 bottom-up-enum-known-q-2 : (t : ℕ) → bottom-up-lts.Need-enum-known-q-2 (calls-bottom-up t) (bottom-up-at t) bottom-up.Post
 bottom-up-enum-known-q-2 t c = search needs
