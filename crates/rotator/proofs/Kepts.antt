@@ -104,13 +104,16 @@ module _ (t : Bytes) {w : List ℕ} {i k x y n : ℕ} {r : Expr Span} (v : TwoVi
       pub two-count : s .rows + length (members b l) ≡ p .rows + n
       two-count = omega (arith, c .rows, d .rows, members-size b l, rotate-size g, v .rows, size-resolve t (v .left), size-resolve t (v .right))
 
+      pub two-length : length (packs (p .text) (members b l)) ≡ p .rows + n - s .rows
+      two-length = length-packs (p .text) (members b l) ∙ omega (arith, two-count)
+
       pub two-closable : length o₂ ≡ length o → Areas o u → Closable o₂ (s .rows) (p .rows + n - s .rows)
       two-closable lo a = record {
         before = take (p .rows * 4) o;
         trees = packs (p .text) (members b l);
         tree = packed (q .text) (rotate g);
         forest = two-forest;
-        count = length-packs (p .text) (members b l) ∙ omega (arith, two-count);
+        count = two-length;
         room = omega (arith, two-count, node-fits .rows, v .rows, size-resolve t (v .left), size-resolve t (v .right));
         words = omega (arith, a .words);
       }
@@ -132,3 +135,6 @@ pub two-kept : (t : Bytes) {w : List ℕ} {i k x y n : ℕ} {r : Expr Span} (v :
     (c : KeptAll q p (members (v .op) (resolve t (v .left))) o o₁ u u₁) (h : Fits p (resolve t r) o u) (d : Kept s q (rotate (resolve t (v .right))) o₁ o₂ u₁ u₂) → length o₂ ≡ length o → (z : Wrote) (o₃ : List ℕ)
     → ClosedAnswer z s (v .op) (packs (p .text) (members (v .op) (resolve t (v .left)))) (packed (q .text) (rotate (resolve t (v .right)))) o₂ o₃ → KeptAnswer z p (rotate (resolve t r)) o o₃ u u₂
 two-kept t v c h d lo z o₃ y = rw (v .is) (closed-kept t v (v .op) c h d refl lo z o₃ y)
+
+pub rotate-most : (e : E) → size (rotate e) ≤ size e
+rotate-most e = omega (arith, rotate-size e)

@@ -16,7 +16,7 @@ use writing::Place;
 use writing::Wrote;
 
 // Writes the members of the chain of `kind` at row `root`, each rotated, one after the other from p on.
-fn members(
+fn emit(
     rows: &[u32],
     text: &[u8],
     root: usize,
@@ -53,10 +53,10 @@ fn members(
     else {
         return Wrote::Full;
     };
-    let Wrote::Done(q) = members(rows, text, right - n as usize, kind, out, lits, p) else {
+    let Wrote::Done(q) = emit(rows, text, right - n as usize, kind, out, lits, p) else {
         return Wrote::Full;
     };
-    members(rows, text, right, kind, out, lits, q)
+    emit(rows, text, right, kind, out, lits, q)
 }
 
 // Writes the rotated subtree of row `root`, which fits, at p, its literals packed.
@@ -87,6 +87,8 @@ pub fn rotate(
             writing::put_row(out, q, kind, x, y, size)
         }
         Shape::Two => {
+            // there are as many rows as before: those that are missing in the end close the chain
+            let end = p.rows + size as usize;
             let right = root - 1;
             let Lookup::Row {
                 kind: _,
@@ -97,14 +99,12 @@ pub fn rotate(
             else {
                 return Wrote::Full;
             };
-            let Wrote::Done(q) = members(rows, text, right - n as usize, kind, out, lits, p) else {
+            let Wrote::Done(q) = emit(rows, text, right - n as usize, kind, out, lits, p) else {
                 return Wrote::Full;
             };
             let Wrote::Done(s) = rotate(rows, text, right, out, lits, q) else {
                 return Wrote::Full;
             };
-            // as many rows as before: those that are missing close the chain
-            let end = p.rows + size as usize;
             chains::close(out, s, kind, end - s.rows)
         }
     }
