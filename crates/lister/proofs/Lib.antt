@@ -4,3 +4,4 @@ pub mod Insides
 mod Moves
 mod Looks
 mod Pairs
+mod Ends

@@ -53,7 +53,7 @@ module _ {P : Type 0} (r : E) where
   list-case (un (RepMax m) e) f g = g refl
   list-case (un (RepMinMax m o) e) f g = g refl
 
-list-idle : (l r : E) → (Loops l r → ⊥) → list? (bin Seq l r) ≡ none
+pub list-idle : (l r : E) → (Loops l r → ⊥) → list? (bin Seq l r) ≡ none
 list-idle l r n = list-case r l (λ h. absurd (n h)) (λ e. e)
 
 -- "children first, then the node once", by node

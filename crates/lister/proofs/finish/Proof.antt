@@ -1,3 +1,11 @@
+use mathlib.Core.Path.{refl}
+use Rattle.lister.proofs.Ends.{movable, ends-choice, ends-loop, ends-seq}
+use mathlib.Core.Path.{_≡_, sym, _∙_}
+use native.Mathlib.Omega.{arith}
+use lib.ListN.{length, take, drop}
+use lib.Seq.{length-take-le}
+use Rattle.rows.proofs.Laws.{size-pos}
+use Rattle.lister.proofs.Pairs.{part-words, at-first, at-second, lies-inside}
 use borrow.Author.Needs.{needs}
 use Rattle.lister.proofs.finish.Statement.{statement}
 use Rattle.lister.proofs.finish.Tie as tie
@@ -7,113 +15,86 @@ use Rattle.lister.proofs.loops.Reads as loops-reads
 use Rattle.lister.proofs.mend.Reads as mend-reads
 use Rattle.writing.proofs.put_row.Reads as put-row-reads
 
--- src/lib.rt:96:17
 sub-size : tie.Need-sub-size
 sub-size c = search needs
 
--- src/lib.rt:96:17
 add-size : tie.Need-add-size
 add-size c = search needs
 
--- src/lib.rt:96:16
 cast-size : tie.Need-cast-size
 cast-size c = search needs
 
--- src/lib.rt:98:9
 put-row-requires : tie.Need-put-row-requires
 put-row-requires c κs = search needs
 
--- src/lib.rt:98:9
 same-length : tie.Need-same-length
 same-length c = search needs
 
--- src/lib.rt:98:9
 returns : tie.Need-returns
-returns c = ?
+returns c = let s = c .before .before .before .before .before .before .before in λ b e f k h. ends-choice (c .before .before .put-row .result) (c .before .before .put-row .last .0) b e f (s .args .kind) k h _ refl (c .before .before .before .before .if1 .taken) (c .before .before .put-row .ensures)
 
--- src/lib.rt:100:13
 mul-a : tie.Need-mul-a
 mul-a c = search needs
 
--- src/lib.rt:101:13
 mul-e : tie.Need-mul-e
 mul-e c = search needs
 
--- src/lib.rt:102:14
 mul-loops : tie.Need-mul-loops
 mul-loops c = search needs
 
--- src/lib.rt:102:14
 sub-loops : tie.Need-sub-loops
 sub-loops c = search needs
 
--- src/lib.rt:102:14
 part-loops-start : tie.Need-part-loops-start
 part-loops-start c = search needs
 
--- src/lib.rt:102:14
 part-loops-end : tie.Need-part-loops-end
 part-loops-end c = search needs
 
--- src/lib.rt:102:26
 slice-aggregate-loops : tie.Need-slice-aggregate-loops
-slice-aggregate-loops c = ?
+slice-aggregate-loops c = let s = c .before .before .before .before .before .before in sym (length-take-le _ _ (s .pre .pair .end))
 
--- src/lib.rt:102:41
 sub-loops-2 : tie.Need-sub-loops-2
 sub-loops-2 c = search needs
 
--- src/lib.rt:102:41
 sub-loops-3 : tie.Need-sub-loops-3
-sub-loops-3 c = ?
+sub-loops-3 c = let s = c .before .before .before .before .before .before in let h = s .pre .pair in omega (arith, h .rows₁, size-pos (s .pre .left))
 
--- src/lib.rt:102:59
 sub-loops-4 : tie.Need-sub-loops-4
 sub-loops-4 c = search needs
 
--- src/lib.rt:102:59
 sub-loops-5 : tie.Need-sub-loops-5
-sub-loops-5 c = ?
+sub-loops-5 c = let s = c .before .before .before .before .before .before in let h = s .pre .pair in omega (arith, h .rows₁, h .rows₂, size-pos (s .pre .left))
 
--- src/lib.rt:102:8
 loops-requires : tie.Need-loops-requires
-loops-requires c κs = ?
+loops-requires c κs = let s = c .before .before .before .before .before .before in let h = s .pre .pair in rw (part-words h) (lies-inside h, (record { tree = _; at = at-first h }, record { tree = _; at = at-second h }))
 
--- src/lib.rt:104:36
 sub-mend : tie.Need-sub-mend
 sub-mend c = search needs
 
--- src/lib.rt:104:36
 sub-mend-2 : tie.Need-sub-mend-2
-sub-mend-2 c = ?
+sub-mend-2 c = let s = c .before .before .before .before .before .before .before .before .before in let h = s .pre .pair in omega (arith, h .rows₁, size-pos (s .pre .left))
 
--- src/lib.rt:104:35
 cast-mend : tie.Need-cast-mend
 cast-mend c = search needs
 
--- src/lib.rt:104:9
 mend-requires : tie.Need-mend-requires
-mend-requires c κs = ?
+mend-requires c κs = let s = c .before .before .before .before .before .before .before .before .before in let h = s .pre .pair in (movable h (c .before .before .loops .result) (c .before .before .loops .ensures) (c .before .if2 .taken), omega (arith, s .pre .areas .words, h .room, h .rows₂))
 
--- src/lib.rt:104:9
 same-length-2 : tie.Need-same-length-2
 same-length-2 c = search needs
 
--- src/lib.rt:104:9
 returns-2 : tie.Need-returns-2
-returns-2 c = ?
+returns-2 c = let s = c .before .before .before .before .before .before .before .before .before .before .before .before in λ b e f k h. ends-loop (c .before .before .mend .result) (c .before .before .mend .last .0) b e f (s .args .kind) k h (c .before .before .before .before .before .loops .result) (c .before .before .before .before .before .loops .ensures) (c .before .before .before .before .before .before .before .before .before .if1 .left) _ _ refl refl (c .before .before .before .before .if2 .taken) (c .before .before .mend .ensures)
 
--- src/lib.rt:106:5
 put-row-requires-2 : tie.Need-put-row-requires-2
 put-row-requires-2 c κs = search needs
 
--- src/lib.rt:88:1
 same-length-3 : tie.Need-same-length-3
 same-length-3 c = search needs
 
--- src/lib.rt:88:1
 returns-3 : tie.Need-returns-3
-returns-3 c = ?
+returns-3 c = let s = c .before .before .before .before .before .before .before .before .before .before .before .before in λ b e f k h. ends-seq (c .before .before .put-row2 .result) (c .before .before .put-row2 .last .0) b e f (s .args .kind) k h (c .before .before .before .before .before .loops .result) (c .before .before .before .before .before .loops .ensures) (c .before .before .before .before .before .before .before .before .before .if1 .left) _ refl (c .before .before .before .before .if2 .left) (c .before .before .put-row2 .ensures)
 
 pub finish-spec : {M : Type 1} → statement M
 finish-spec =
