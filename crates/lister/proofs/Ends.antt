@@ -19,7 +19,7 @@ use Rattle.writing.specs.Keeps.{KeptAnswer}
 use Rattle.lister.specs.Loops.{Loops}
 use Rattle.lister.specs.Mends.{Pair, Movable, MendedAnswer}
 use Rattle.lister.proofs.Lists.{list-fires, list-idle}
-use Rattle.lister.proofs.Pairs.{part-words, told, ended, ended-loop}
+use Rattle.lister.proofs.Pairs.{told, ended, ended-loop}
 
 choice-kind : (b : Bin) → (binKind b ≡ 8 → ⊥) → b ≡ Choice
 choice-kind Seq n = absurd (n refl)
@@ -29,15 +29,13 @@ idle-choice : (e f : E) → orSame list? (bin Choice e f) ≡ bin Choice e f
 unfolding list?
 idle-choice e f = refl
 
--- what the comparison of the part that was lent told
-abbrev Told : (p q s : Place) (o t : List ℕ) → Bool → Type 0
-Told p q s o t v =
-    let w = take (s .rows * 4 - p .rows * 4) (drop (p .rows * 4) o) in
-    (l r : Expr Span) → At w (q .rows - p .rows - 1) l → At w (s .rows - p .rows - 1) r → Tells v (Loops (resolve (take (s .text) t) l) (resolve (take (s .text) t) r))
+-- what the comparison in the area told
+abbrev Told : (q s : Place) (o t : List ℕ) → Bool → Type 0
+Told q s o t v = (l r : Expr Span) → At o (q .rows - 1) l → At o (s .rows - 1) r → Tells v (Loops (resolve t l) (resolve t r))
 
-module _ {p q s : Place} {e f : E} {o t : List ℕ} (h : Pair p q s e f o t) (v : Bool) (g : Told p q s o t v) where
+module _ {p q s : Place} {e f : E} {o t : List ℕ} (h : Pair p q s e f o t) (v : Bool) (g : Told q s o t v) where
   tells : Tells v (Loops e f)
-  tells = told h v (rw (part-words h) at g)
+  tells = told h v g
 
   -- a loop has more than two rows
   pub movable : v ≡ true → Movable (q .rows) (s .rows) o
@@ -51,7 +49,7 @@ module _ (a : Wrote) {p q s : Place} {o t : List ℕ} (o′ : List ℕ) (b : Bin
       let z : b ≡ Choice = choice-kind b (λ g. ne (k ∙ g)) in
       rw (z, idle-choice e f) (ended h a Choice n o′ m (rw (k ∙ ap binKind z) at r))
 
-  module _ (v : Bool) (g : Told p q s o t v) (seq : kind ≡ 8) where
+  module _ (v : Bool) (g : Told q s o t v) (seq : kind ≡ 8) where
     is-seq : b ≡ Seq
     is-seq = bin-same b Seq (sym k ∙ seq)
 

@@ -4,14 +4,14 @@ use mathlib.Core.Bool.{Bool, true, false}
 use mathlib.Core.List.{List, [], _∷_, _++_, append-assoc, append-nil}
 use Prim.Native.Nat.{ℕ, _+_, _-_, _*_, _/_, _≤_, _<_}
 use native.Mathlib.Omega.{arith}
-use lib.ListN.{length, take, drop, length-append}
+use lib.ListN.{length, take, drop, length-append, take-append-drop}
 use lib.Seq.{take-add, take-take, drop-at, take-at, length-take-le}
 use Rattle.grammar.specs.Basic.{Bytes}
 use Rattle.grammar.specs.Tree.{E, Expr, Bin, Rep, Seq, bin, un, binKind, size}
 use Rattle.grammar.specs.Rows.{Span, row, flat}
 use Rattle.grammar.specs.Text.{resolve, textOf, packed}
-use Rattle.grammar.proofs.Packing.{Has, further, packed-back, packed-size}
-use Rattle.rows.specs.Rows.{At, Tells, Inside}
+use Rattle.grammar.proofs.Packing.{packed-size}
+use Rattle.rows.specs.Rows.{At, Tells, StandsIn}
 use Rattle.rows.proofs.Laws.{length-flat, size-pos}
 use Rattle.writing.specs.declared.Place.{Place}
 use Rattle.writing.specs.declared.Wrote.{Wrote}
@@ -19,10 +19,10 @@ use Rattle.writing.specs.declared.Wrote.the-variants.{Done, Full}
 use Rattle.writing.specs.Writes.{stored, RowAnswer}
 use Rattle.writing.specs.Keeps.{Kept, KeptAnswer}
 use Rattle.writing.proofs.Runs.{take-stored}
+use Rattle.writing.proofs.Keeps.{resolve-packed, within-packed}
 use Rattle.lister.specs.Loops.{Loops}
 use Rattle.lister.specs.Mends.{Pair, Movable, MendedAnswer}
 use Rattle.lister.proofs.Lists.{listed}
-use Rattle.lister.proofs.Insides.{inside-append, inside-packed}
 
 -- what is known up to n, cut at m
 module _ (o x y : List ℕ) (m n : ℕ) (h : m ≤ n) (e : take n o ≡ x ++ y) (l : length x ≡ m) where
@@ -39,48 +39,54 @@ module _ {p q s : Place} {e f : E} {o t : List ℕ} (h : Pair p q s e f o t) whe
   abbrev both : List ℕ
   both = flat (packed (p .text) e) ++ flat (packed (q .text) f)
 
-  lengths : length both ≡ (size e + size f) * 4
-  lengths = simp length-append (omega (arith, length-flat (packed (p .text) e), packed-size (p .text) e, length-flat (packed (q .text) f), packed-size (q .text) f))
-
   front-length : length (take (p .rows * 4) o) ≡ p .rows * 4
   front-length = length-take-le (p .rows * 4) o (omega (arith, h .room, h .rows₁, h .rows₂))
 
   head-length : length (take (p .text) t) ≡ p .text
   head-length = length-take-le (p .text) t (omega (arith, h .end, h .text₁, h .text₂))
 
-  -- the part that was lent holds the two trees
-  pub part-words : take (s .rows * 4 - p .rows * 4) (drop (p .rows * 4) o) ≡ both
-  part-words = part-of o (take (p .rows * 4) o) both (p .rows * 4) (s .rows * 4) (omega (arith, h .rows₁, h .rows₂)) (h .words) front-length
+  whole : o ≡ take (p .rows * 4) o ++ (both ++ drop (s .rows * 4) o)
+  whole = sym (take-append-drop (s .rows * 4) o) ∙ rw (h .words) (append-assoc (take (p .rows * 4) o) both (drop (s .rows * 4) o))
 
-  pub at-first : At both (q .rows - p .rows - 1) (packed (p .text) e)
-  at-first = record { before = []; after = flat (packed (q .text) f); whole = refl; place = omega (arith, packed-size (p .text) e, size-pos e, h .rows₁) }
+  text : t ≡ take (p .text) t ++ ((textOf e ++ textOf f) ++ drop (s .text) t)
+  text = sym (take-append-drop (s .text) t) ∙ rw (h .bytes) (append-assoc (take (p .text) t) (textOf e ++ textOf f) (drop (s .text) t))
 
-  pub at-second : At both (s .rows - p .rows - 1) (packed (q .text) f)
-  at-second = record {
-    before = flat (packed (p .text) e);
-    after = [];
-    whole = simp append-nil;
-    place = omega (arith, length-flat (packed (p .text) e), packed-size (p .text) e, packed-size (q .text) f, size-pos f, h .rows₁, h .rows₂);
+  -- the two trees are read where they were written
+  pub at-first : At o (q .rows - 1) (packed (p .text) e)
+  at-first = record {
+    before = take (p .rows * 4) o;
+    after = flat (packed (q .text) f) ++ drop (s .rows * 4) o;
+    whole = whole ∙ ap (λ (l : List ℕ). take (p .rows * 4) o ++ l) (append-assoc (flat (packed (p .text) e)) (flat (packed (q .text) f)) (drop (s .rows * 4) o));
+    place = omega (arith, front-length, packed-size (p .text) e, size-pos e, h .rows₁);
   }
 
-  text-first : Has (take (s .text) t) (p .text) (textOf e) (textOf f)
-  text-first = ap (drop (p .text)) (h .bytes) ∙ drop-at (take (p .text) t) _ (p .text) head-length
+  pub at-second : At o (s .rows - 1) (packed (q .text) f)
+  at-second = record {
+    before = take (p .rows * 4) o ++ flat (packed (p .text) e);
+    after = drop (s .rows * 4) o;
+    whole = whole ∙ simp append-assoc;
+    place = simp length-append (omega (arith, front-length, length-flat (packed (p .text) e), packed-size (p .text) e, packed-size (q .text) f, size-pos f, h .rows₁, h .rows₂));
+  }
 
-  text-second : Has (take (s .text) t) (q .text) (textOf f) []
-  text-second = rw (h .text₁) (further _ (p .text) (textOf e) (textOf f) text-first) ∙ sym (append-nil (textOf f))
+  pub stands-first : StandsIn o (q .rows - 1) (length t)
+  stands-first = record { tree = packed (p .text) e; at = at-first; within = within-packed (length t) (p .text) e (omega (arith, h .text₁, h .text₂, h .end)) }
 
-  pub lies-inside : Inside both (length (take (s .text) t))
-  lies-inside =
-      let n = length-take-le (s .text) t (h .end) in
-      inside-append _ _ (size e) _ (length-flat (packed (p .text) e) ∙ ap (λ (m : ℕ). m * 4) (packed-size (p .text) e))
-      (inside-packed e (p .text) _ (omega (arith, h .text₁, h .text₂))) (inside-packed f (q .text) _ (omega (arith, h .text₂)))
+  pub stands-second : StandsIn o (s .rows - 1) (length t)
+  stands-second = record { tree = packed (q .text) f; at = at-second; within = within-packed (length t) (q .text) f (omega (arith, h .text₂, h .end)) }
 
-  -- what was told of the part is so of the trees
-  pub told : (b : Bool) → ((l r : Expr Span) → At both (q .rows - p .rows - 1) l → At both (s .rows - p .rows - 1) r → Tells b (Loops (resolve (take (s .text) t) l) (resolve (take (s .text) t) r))) → Tells b (Loops e f)
+  back-first : resolve t (packed (p .text) e) ≡ e
+  back-first = resolve-packed t (p .text) (take (p .text) t) (textOf f ++ drop (s .text) t) e (text ∙ ap (λ (l : List ℕ). take (p .text) t ++ l) (append-assoc (textOf e) (textOf f) (drop (s .text) t))) head-length
+
+  back-second : resolve t (packed (q .text) f) ≡ f
+  back-second =
+      let l : length (take (p .text) t ++ textOf e) ≡ q .text = length-append (take (p .text) t) (textOf e) ∙ omega (arith, head-length, h .text₁) in
+      resolve-packed t (q .text) (take (p .text) t ++ textOf e) (drop (s .text) t) f (text ∙ simp append-assoc) l
+
+  -- what was told of the area is so of the trees
+  pub told : (b : Bool) → ((l r : Expr Span) → At o (q .rows - 1) l → At o (s .rows - 1) r → Tells b (Loops (resolve t l) (resolve t r))) → Tells b (Loops e f)
   told b g =
-      let x = packed-back (take (s .text) t) (p .text) e _ text-first in
-      let y = packed-back (take (s .text) t) (q .text) f _ text-second in
-      subst (λ (z : E). Tells b (Loops z f)) x (subst (λ (z : E). Tells b (Loops (resolve (take (s .text) t) (packed (p .text) e)) z)) y (g _ _ at-first at-second))
+      subst (λ (z : E). Tells b (Loops z f)) back-first
+      (subst (λ (z : E). Tells b (Loops (resolve t (packed (p .text) e)) z)) back-second (g _ _ at-first at-second))
 
   -- the node's own row
   pub ended : (a : Wrote) (b : Bin) (n : ℕ) (o′ : List ℕ) → n ≡ s .rows - p .rows + 1 → RowAnswer a s (binKind b, 0, 0) n o o′ → KeptAnswer a p (bin b e f) o o′ t t

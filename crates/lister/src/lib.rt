@@ -6,7 +6,7 @@ ghost use Rattle.grammar.specs.Tree.{Expr, E, Bin, bin, binKind};
 ghost use Rattle.grammar.specs.Rows.{Span};
 ghost use Rattle.grammar.specs.Text.{resolve};
 ghost use Rattle.grammar.specs.Steps.{orSame, list, list?};
-ghost use Rattle.rows.specs.Rows.{Tells, Inside, At, Stands};
+ghost use Rattle.rows.specs.Rows.{Tells, Inside, At, StandsIn};
 ghost use Rattle.writing.specs.Writes.{stored, Areas};
 ghost use Rattle.writing.specs.Keeps.{KeptAnswer, Ready};
 ghost use Rattle.lister.specs.Loops.{Loops};
@@ -43,9 +43,8 @@ pub fn mend(out: &mut [u32], from: usize, s: Place, n: u32, m: u32) -> Wrote
 
 // Whether the subtrees of rows i and j are (a~b)* and a.
 pub fn loops(rows: &[u32], text: &[u8], i: usize, j: usize) -> bool
-    requires { ⌜ Inside (now rows) (length (now text)) ⌝ }
-    requires { ⌜ Stands (now rows) i ⌝ }
-    requires { ⌜ Stands (now rows) j ⌝ }
+    requires { ⌜ StandsIn (now rows) i (length (now text)) ⌝ }
+    requires { ⌜ StandsIn (now rows) j (length (now text)) ⌝ }
     ensures { λ b. ⌜ ((l r : Expr Span) → At (now (rows .entry)) i l → At (now (rows .entry)) j r → Tells b (Loops (resolve (now (text .entry)) l) (resolve (now (text .entry)) r))) ⌝ }
 {
     let Lookup::Row {
@@ -91,19 +90,65 @@ pub fn finish(out: &mut [u32], lits: &[u8], p: Place, q: Place, s: Place, kind: 
     requires { ⌜ Pairs p q s (now out) (now lits) ⌝ }
     ensures { λ a. ⌜ ((b : Bin) (e f : E) → kind ≡ binKind b → Pair p q s e f (now (out .entry)) (now (lits .entry)) → KeptAnswer a p (orSame list? (bin b e f)) (now (out .entry)) (now (out .exit)) (now (lits .entry)) (now (lits .entry))) ⌝ }
 {
-    let first = p.rows;
     let from = q.rows;
     let end = s.rows;
-    let last = s.text;
-    let size = (end - first + 1) as u32;
+    let size = (end - p.rows + 1) as u32;
     if kind != 8 {
         return writing::put_row(out, s, kind, 0, 0, size);
     }
-    let a = first * 4;
-    let e = end * 4;
-    if loops(&out[a..e], &lits[..last], from - first - 1, end - first - 1) {
+    if loops(out, lits, from - 1, end - 1) {
         // the loop's two rows count what they did: a is as large as the tree that follows
-        return mend(out, from, s, (from - first - 1) as u32, size);
+        return mend(out, from, s, (from - p.rows - 1) as u32, size);
     }
     writing::put_row(out, s, 8, 0, 0, size)
+}
+
+// Writes the listed subtree of row `root` at p, its literals packed.
+pub fn list(
+    rows: &[u32],
+    text: &[u8],
+    root: usize,
+    out: &mut [u32],
+    lits: &mut [u8],
+    p: Place,
+) -> Wrote
+    requires { ⌜ Inside (now rows) (length (now text)) ⌝ }
+    requires { ⌜ Ready (now rows) (now text) root p (now out) (now lits) ⌝ }
+    requires { ⌜ Areas (now out) (now lits) ⌝ }
+    ensures { λ a. ⌜ ((r : Expr Span) → At (now (rows .entry)) root r → KeptAnswer a p (list (resolve (now (text .entry)) r)) (now (out .entry)) (now (out .exit)) (now (lits .entry)) (now (lits .exit))) ⌝ }
+{
+    let Lookup::Row { kind, x, y, size } = rows::row_at(rows, root) else {
+        return Wrote::Full;
+    };
+    match rows::shape_of(kind) {
+        Shape::Lit => writing::keep(rows, text, root, out, lits, p),
+        Shape::Num => writing::keep(rows, text, root, out, lits, p),
+        Shape::Skips => writing::keep(rows, text, root, out, lits, p),
+        Shape::One => {
+            let Wrote::Done(q) = list(rows, text, root - 1, out, lits, p) else {
+                return Wrote::Full;
+            };
+            writing::put_row(out, q, kind, x, y, size)
+        }
+        Shape::Two => {
+            let right = root - 1;
+            let Lookup::Row {
+                kind: _,
+                x: _,
+                y: _,
+                size: n,
+            } = rows::row_at(rows, right)
+            else {
+                return Wrote::Full;
+            };
+            let left = right - rows::wide(n);
+            let Wrote::Done(q) = list(rows, text, left, out, lits, p) else {
+                return Wrote::Full;
+            };
+            let Wrote::Done(s) = list(rows, text, right, out, lits, q) else {
+                return Wrote::Full;
+            };
+            finish(out, lits, p, q, s, kind)
+        }
+    }
 }

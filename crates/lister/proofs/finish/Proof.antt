@@ -1,11 +1,8 @@
 use mathlib.Core.Path.{refl}
-use Rattle.lister.proofs.Ends.{movable, ends-choice, ends-loop, ends-seq}
-use mathlib.Core.Path.{_≡_, sym, _∙_}
 use native.Mathlib.Omega.{arith}
-use lib.ListN.{length, take, drop}
-use lib.Seq.{length-take-le}
 use Rattle.rows.proofs.Laws.{size-pos}
-use Rattle.lister.proofs.Pairs.{part-words, at-first, at-second, lies-inside}
+use Rattle.lister.proofs.Pairs.{stands-first, stands-second}
+use Rattle.lister.proofs.Ends.{movable, ends-choice, ends-loop, ends-seq}
 use borrow.Author.Needs.{needs}
 use Rattle.lister.proofs.finish.Statement.{statement}
 use Rattle.lister.proofs.finish.Tie as tie
@@ -31,43 +28,16 @@ same-length : tie.Need-same-length
 same-length c = search needs
 
 returns : tie.Need-returns
-returns c = let s = c .before .before .before .before .before .before .before in λ b e f k h. ends-choice (c .before .before .put-row .result) (c .before .before .put-row .last .0) b e f (s .args .kind) k h _ refl (c .before .before .before .before .if1 .taken) (c .before .before .put-row .ensures)
-
-mul-a : tie.Need-mul-a
-mul-a c = search needs
-
-mul-e : tie.Need-mul-e
-mul-e c = search needs
-
-mul-loops : tie.Need-mul-loops
-mul-loops c = search needs
+returns c = let s = c .before .before .before .before .before .before .before .before in λ b e f k h. ends-choice (c .before .before .put-row .result) (c .before .before .put-row .last .0) b e f (s .args .kind) k h _ refl (c .before .before .before .before .if1 .taken) (c .before .before .put-row .ensures)
 
 sub-loops : tie.Need-sub-loops
-sub-loops c = search needs
-
-part-loops-start : tie.Need-part-loops-start
-part-loops-start c = search needs
-
-part-loops-end : tie.Need-part-loops-end
-part-loops-end c = search needs
-
-slice-aggregate-loops : tie.Need-slice-aggregate-loops
-slice-aggregate-loops c = let s = c .before .before .before .before .before .before in sym (length-take-le _ _ (s .pre .pair .end))
+sub-loops c = let s = c .before .before .before .before .before in let h = s .pre .pair in omega (arith, h .rows₁, size-pos (s .pre .left))
 
 sub-loops-2 : tie.Need-sub-loops-2
-sub-loops-2 c = search needs
-
-sub-loops-3 : tie.Need-sub-loops-3
-sub-loops-3 c = let s = c .before .before .before .before .before .before in let h = s .pre .pair in omega (arith, h .rows₁, size-pos (s .pre .left))
-
-sub-loops-4 : tie.Need-sub-loops-4
-sub-loops-4 c = search needs
-
-sub-loops-5 : tie.Need-sub-loops-5
-sub-loops-5 c = let s = c .before .before .before .before .before .before in let h = s .pre .pair in omega (arith, h .rows₁, h .rows₂, size-pos (s .pre .left))
+sub-loops-2 c = let s = c .before .before .before .before .before in let h = s .pre .pair in omega (arith, h .rows₂, size-pos (s .pre .right))
 
 loops-requires : tie.Need-loops-requires
-loops-requires c κs = let s = c .before .before .before .before .before .before in let h = s .pre .pair in rw (part-words h) (lies-inside h, (record { tree = _; at = at-first h }, record { tree = _; at = at-second h }))
+loops-requires c κs = let h = c .before .before .before .before .before .pre .pair in (stands-first h, stands-second h)
 
 sub-mend : tie.Need-sub-mend
 sub-mend c = search needs
@@ -79,13 +49,13 @@ cast-mend : tie.Need-cast-mend
 cast-mend c = search needs
 
 mend-requires : tie.Need-mend-requires
-mend-requires c κs = let s = c .before .before .before .before .before .before .before .before .before in let h = s .pre .pair in (movable h (c .before .before .loops .result) (c .before .before .loops .ensures) (c .before .if2 .taken), omega (arith, s .pre .areas .words, h .room, h .rows₂))
+mend-requires c κs = let s = c .before .before .before .before .before .before .before .before .before in let h = s .pre .pair in (movable h (c .before .before .before .loops .result) (c .before .before .before .loops .ensures) (c .before .before .if2 .taken), omega (arith, s .pre .areas .words, h .room, h .rows₂))
 
 same-length-2 : tie.Need-same-length-2
 same-length-2 c = search needs
 
 returns-2 : tie.Need-returns-2
-returns-2 c = let s = c .before .before .before .before .before .before .before .before .before .before .before .before in λ b e f k h. ends-loop (c .before .before .mend .result) (c .before .before .mend .last .0) b e f (s .args .kind) k h (c .before .before .before .before .before .loops .result) (c .before .before .before .before .before .loops .ensures) (c .before .before .before .before .before .before .before .before .before .if1 .left) _ _ refl refl (c .before .before .before .before .if2 .taken) (c .before .before .mend .ensures)
+returns-2 c = let s = c .before .before .before .before .before .before .before .before .before .before .before .before in λ b e f k h. ends-loop (c .before .before .mend .result) (c .before .before .mend .last .0) b e f (s .args .kind) k h (c .before .before .before .before .before .before .loops .result) (c .before .before .before .before .before .before .loops .ensures) (c .before .before .before .before .before .before .before .before .if1 .left) _ _ refl refl (c .before .before .before .before .before .if2 .taken) (c .before .before .mend .ensures)
 
 put-row-requires-2 : tie.Need-put-row-requires-2
 put-row-requires-2 c κs = search needs
@@ -94,7 +64,7 @@ same-length-3 : tie.Need-same-length-3
 same-length-3 c = search needs
 
 returns-3 : tie.Need-returns-3
-returns-3 c = let s = c .before .before .before .before .before .before .before .before .before .before .before .before in λ b e f k h. ends-seq (c .before .before .put-row2 .result) (c .before .before .put-row2 .last .0) b e f (s .args .kind) k h (c .before .before .before .before .before .loops .result) (c .before .before .before .before .before .loops .ensures) (c .before .before .before .before .before .before .before .before .before .if1 .left) _ refl (c .before .before .before .before .if2 .left) (c .before .before .put-row2 .ensures)
+returns-3 c = let s = c .before .before .before .before .before .before .before .before .before .before .before in λ b e f k h. ends-seq (c .before .before .put-row2 .result) (c .before .before .put-row2 .last .0) b e f (s .args .kind) k h (c .before .before .before .before .before .loops .result) (c .before .before .before .before .before .loops .ensures) (c .before .before .before .before .before .before .before .if1 .left) _ refl (c .before .before .before .before .if2 .left) (c .before .before .put-row2 .ensures)
 
 pub finish-spec : {M : Type 1} → statement M
 finish-spec =
@@ -106,17 +76,8 @@ finish-spec =
     put-row-requires
     same-length
     returns
-    mul-a
-    mul-e
-    mul-loops
     sub-loops
-    part-loops-start
-    part-loops-end
-    slice-aggregate-loops
     sub-loops-2
-    sub-loops-3
-    sub-loops-4
-    sub-loops-5
     loops-requires
     sub-mend
     sub-mend-2

@@ -1,7 +1,8 @@
+use Rattle.rows.specs.Rows.{At, Within}
+use lib.ListN.{length}
 use mathlib.Core.Path.{_≡_, sym, _∙_}
 use Prim.Native.Nat.{_-_}
 use native.Mathlib.Omega.{arith}
-use Rattle.rows.specs.Rows.{At}
 use Rattle.rows.proofs.Laws.{Found, row-found, root-there, found-size, size-pos}
 use Rattle.lister.proofs.Looks.{RepOf, SeqOf, as-rep, as-seq, no-rep, no-seq, loops-tell}
 use borrow.Author.Needs.{needs}
@@ -24,14 +25,17 @@ right-row : (m : tie.After-known-told3) → let k = m .before .n .given .0 in le
 right-row m = row-found (sym (m .before .before .before .row-at3 .ensures) ∙ m .before .n .given .1)
 
 -- the Rep, and the Seq in it
-rep-of : (c : tie.Else1) → let s = c .before .before .before .before .before .before .before in RepOf (s .args .rows .now) (s .args .i) (s .pre .1 .0 .tree)
-rep-of c = as-rep (rep-row (c .before)) (c .before .before .before .before .before .before .before .pre .1 .0 .at) (c .if1 .left)
+rep-of : (c : tie.Else1) → let s = c .before .before .before .before .before .before .before in RepOf (s .args .rows .now) (s .args .i) (s .pre .0 .tree)
+rep-of c = as-rep (rep-row (c .before)) (c .before .before .before .before .before .before .before .pre .0 .at) (c .if1 .left)
 
 seq-of : (c : tie.Else2) → let s = c .before .before .before .before .before .before .before .before .before .before .before .before in SeqOf (s .args .rows .now) (s .args .i - 1) (rep-of (c .before .before .before .before .before) .body)
 seq-of c = as-seq (seq-row (c .before)) (rep-of (c .before .before .before .before .before) .at) (c .if2 .left)
 
 head-at : (c : tie.After-wide) → let s = c .before .before .before .before .before .before .before .before .before .before .before .before .before .before .before .before .before in At (s .args .rows .now) (s .args .i - 1 - 1 - c .wide .result) (seq-of (c .before .before .before .before .before) .left)
 head-at c = let v = seq-of (c .before .before .before .before .before) in rw (c .wide .ensures ∙ found-size (right-row (c .before)) (v .atRight)) (v .atLeft)
+
+head-within : (c : tie.Else2) → Within (length (c .before .before .before .before .before .before .before .before .before .before .before .before .args .text .now)) (seq-of c .left)
+head-within c = (rw (seq-of c .is) at (rw (rep-of (c .before .before .before .before .before) .is) at (c .before .before .before .before .before .before .before .before .before .before .before .before .pre .0 .within))) .0
 
 -- ---- needs
 row-at-requires : tie.Need-row-at-requires
@@ -44,7 +48,7 @@ enum-told : tie.Need-enum-told
 enum-told c = search needs
 
 returns : tie.Need-returns
-returns c = absurd (root-there (c .before .before .before .before .before .pre .1 .0 .at) (sym (c .before .before .row-at .ensures) ∙ c .enum-told .given .1))
+returns c = absurd (root-there (c .before .before .before .before .before .pre .0 .at) (sym (c .before .before .row-at .ensures) ∙ c .enum-told .given .1))
 
 returns-2 : tie.Need-returns-2
 returns-2 c = λ l r a b. no-rep (rep-row (c .before)) a _ (c .if1 .taken)
@@ -89,7 +93,7 @@ sub-same-tree : tie.Need-sub-same-tree
 sub-same-tree c = let v = seq-of (c .before .before .before .before .before) in omega (arith, c .wide .ensures, found-size (right-row (c .before)) (v .atRight), v .least, v .most)
 
 same-tree-requires : tie.Need-same-tree-requires
-same-tree-requires c κs = let s = c .before .before .before .before .before .before .before .before .before .before .before .before .before .before .before .before .before in (s .pre .0, (s .pre .0, (record { tree = _; at = head-at c }, s .pre .1 .1)))
+same-tree-requires c κs = let s = c .before .before .before .before .before .before .before .before .before .before .before .before .before .before .before .before .before in (record { tree = _; at = head-at c; within = head-within (c .before .before .before .before .before) }, s .pre .1)
 
 returns-6 : tie.Need-returns-6
 returns-6 c = let s = c .before .before .before .before .before .before .before .before .before .before .before .before .before .before .before .before .before .before in
