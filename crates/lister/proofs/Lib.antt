@@ -4,3 +4,4 @@ mod Moves
 mod Looks
 mod Pairs
 mod Ends
+mod Walks

@@ -61,19 +61,9 @@ pub list-un : (u : Un) (e : E) → list (un u e) ≡ un u (list e)
 unfolding list list?
 list-un u e = refl
 
-pub list-choice : (l r : E) → list (bin Choice l r) ≡ bin Choice (list l) (list r)
-unfolding list list?
-list-choice l r = refl
-
-pub list-seq : (l r : E) → list (bin Seq l r) ≡ orSame list? (bin Seq (list l) (list r))
+pub list-bin : (b : Bin) (l r : E) → list (bin b l r) ≡ orSame list? (bin b (list l) (list r))
 unfolding list
-list-seq l r = refl
-
-pub list-loop : (l r : E) (h : Loops (list l) (list r)) → list (bin Seq l r) ≡ listed (h .head) (h .tail) (list r)
-list-loop l r h = list-seq l r ∙ rw (list-fires (list l) (list r) h)
-
-pub list-same : (l r : E) → (Loops (list l) (list r) → ⊥) → list (bin Seq l r) ≡ bin Seq (list l) (list r)
-list-same l r n = list-seq l r ∙ rw (list-idle (list l) (list r) n)
+list-bin b l r = refl
 
 -- list keeps the number of rows
 seq-size : (l r : E) → size (orSame list? (bin Seq l r)) ≡ size (bin Seq l r)
