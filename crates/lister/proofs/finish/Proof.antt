@@ -43,7 +43,7 @@ sub-mend : tie.Need-sub-mend
 sub-mend c = search needs
 
 sub-mend-2 : tie.Need-sub-mend-2
-sub-mend-2 c = let s = c .before .before .before .before .before .before .before .before .before in let h = s .pre .pair in omega (arith, h .rows₁, size-pos (s .pre .left))
+sub-mend-2 c = let s = c .before .before .before .before .before .before .before .before .before in let h = s .pre .pair in omega (arith, h .rows₁, h .rows₂, size-pos (s .pre .left))
 
 cast-mend : tie.Need-cast-mend
 cast-mend c = search needs
