@@ -1,0 +1,3 @@
+-- What the proofs of several functions use.
+pub mod Factors
+mod Splits
