@@ -18,6 +18,9 @@ pub factor-is : (type : ℕ) (e : E) → factor type e ≡ factored (isTight typ
 unfolding factor factored
 factor-is type e = refl
 
+pub factor-rule : (type : ℕ) (tight : Bool) (e : E) → tight ≡ isTight type → factor type e ≡ factored tight e
+factor-rule type tight e h = factor-is type e ∙ rw h
+
 pub factored-step : (tight : Bool) (e : E) → factored tight e ≡ beneath tight (orSame (factor? tight) e)
 unfolding factored
 factored-step tight e = topDown-step (orSame (factor? tight)) (factor-falls tight) e

@@ -140,15 +140,15 @@ module _ {p : Place} {o t : List ℕ} {l r a b : E} (el : l ≡ bin Seq a b) (f 
   fits-heads {c} {d} er = record {
     rows = omega (arith, f .rows, ap size el, ap size er);
     text =
-      omega (
-        arith,
-        f .text,
-        ap (λ (e : E). length (textOf e)) el,
-        ap (λ (e : E). length (textOf e)) er,
-        length-append (textOf l) (textOf r),
-        length-append (textOf a) (textOf b),
-        length-append (textOf c) (textOf d),
-        length-append (textOf a) (textOf (bin Choice b d)),
-        length-append (textOf b) (textOf d)
-      );
+        omega (
+          arith,
+          f .text,
+          ap (λ (e : E). length (textOf e)) el,
+          ap (λ (e : E). length (textOf e)) er,
+          length-append (textOf l) (textOf r),
+          length-append (textOf a) (textOf b),
+          length-append (textOf c) (textOf d),
+          length-append (textOf a) (textOf (bin Choice b d)),
+          length-append (textOf b) (textOf d),
+        );
   }
