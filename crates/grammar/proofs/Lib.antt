@@ -4,6 +4,7 @@ pub mod Words
 pub mod Packing
 pub mod TopDown
 pub mod Readings
+pub mod Leaves
 pub mod Stacks
 pub mod Notation
 pub mod Examples
