@@ -1,0 +1,2 @@
+-- Laws of unrolling.
+pub mod Sizes

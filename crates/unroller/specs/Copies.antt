@@ -1,0 +1,62 @@
+-- Copies of a tree that stands in the areas themselves, and trees laid one after another. Assumes nothing.
+use mathlib.Core.Path.{_≡_}
+use mathlib.Core.List.{List, [], _∷_, _++_}
+use Prim.Native.Nat.{ℕ, zero, suc, _+_, _-_, _*_, _/_, _^_, _≤_, _<_}
+use lib.ListN.{length}
+use Rattle.grammar.specs.Basic.{Bytes}
+use Rattle.grammar.specs.Tree.{E, size}
+use Rattle.grammar.specs.Rows.{row, flat}
+use Rattle.grammar.specs.Text.{bytesAt, textOf, packed}
+use Rattle.rows.specs.declared.Shape.{Shape}
+use Rattle.rows.specs.declared.Shape.the-variants.{Lit, Num, One, Two, Skips}
+use Rattle.rows.specs.Rows.{kindAt, xAt, yAt, sizeAt, shapeOf, At}
+use Rattle.writing.specs.declared.Place.{Place}
+use Rattle.writing.specs.Writes.{stored, Areas}
+
+-- the x word of a row moved with its text by d: an offset moves, a number does not
+abbrev pub movedBy : Shape → ℕ → ℕ → ℕ
+movedBy Lit d x = x + d
+movedBy Num d x = x
+movedBy One d x = x
+movedBy Two d x = x
+movedBy Skips d x = x
+
+unfoldable pub movedRow : ℕ → List ℕ → ℕ → List ℕ
+movedRow d w i = row (kindAt w i, movedBy (shapeOf (kindAt w i)) d (xAt w i), yAt w i) (sizeAt w i)
+
+-- n rows from row i on, moved by d
+abbrev pub moved : ℕ → List ℕ → ℕ → ℕ → List ℕ
+moved d w i zero = []
+moved d w i (suc n) = moved d w i n ++ movedRow d w (i + n)
+
+-- an offset that is moved stays a word
+abbrev pub Movable : ℕ → List ℕ → ℕ → Type 0
+Movable d w i = shapeOf (kindAt w i) ≡ Lit → xAt w i + d < 2 ^ 32
+
+-- the packed tree e stands in the areas o and t, from p to q
+pub record Source (p q : Place) (e : E) (o t : List ℕ) : Type 0 where
+  pub rows : q .rows ≡ p .rows + size e
+  pub text : q .text ≡ p .text + length (textOf e)
+  pub at : At o (q .rows - 1) (packed (p .text) e)
+  pub bytes : bytesAt t (p .text, length (textOf e)) ≡ textOf e
+  pub within : q .text ≤ length t
+
+-- the rows, the texts and the packed words of several trees
+abbrev pub rowsOf : List E → ℕ
+rowsOf [] = 0
+rowsOf (e ∷ es) = size e + rowsOf es
+
+abbrev pub textsOf : List E → Bytes
+textsOf [] = []
+textsOf (e ∷ es) = textOf e ++ textsOf es
+
+abbrev pub flats : ℕ → List E → List ℕ
+flats o [] = []
+flats o (e ∷ es) = flat (packed o e) ++ flats (o + length (textOf e)) es
+
+-- the packed trees es stand one after another from p to q, and nothing else of the areas has changed
+pub record Laid (q p : Place) (es : List E) (o o′ t t′ : List ℕ) : Type 0 where
+  pub rows : q .rows ≡ p .rows + rowsOf es
+  pub text : q .text ≡ p .text + length (textsOf es)
+  pub words : o′ ≡ stored o (p .rows * 4) (flats (p .text) es)
+  pub bytes : t′ ≡ stored t (p .text) (textsOf es)
