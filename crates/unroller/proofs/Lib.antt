@@ -1,2 +1,4 @@
 -- Laws of unrolling.
 pub mod Sizes
+pub mod Stores
+pub mod Moves

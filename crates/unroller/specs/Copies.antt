@@ -11,7 +11,7 @@ use Rattle.rows.specs.declared.Shape.{Shape}
 use Rattle.rows.specs.declared.Shape.the-variants.{Lit, Num, One, Two, Skips}
 use Rattle.rows.specs.Rows.{kindAt, xAt, yAt, sizeAt, shapeOf, At}
 use Rattle.writing.specs.declared.Place.{Place}
-use Rattle.writing.specs.Writes.{stored, Areas}
+use Rattle.writing.specs.Writes.{Put}
 
 -- the x word of a row moved with its text by d: an offset moves, a number does not
 abbrev pub movedBy : Shape → ℕ → ℕ → ℕ
@@ -55,8 +55,5 @@ flats o [] = []
 flats o (e ∷ es) = flat (packed o e) ++ flats (o + length (textOf e)) es
 
 -- the packed trees es stand one after another from p to q, and nothing else of the areas has changed
-pub record Laid (q p : Place) (es : List E) (o o′ t t′ : List ℕ) : Type 0 where
-  pub rows : q .rows ≡ p .rows + rowsOf es
-  pub text : q .text ≡ p .text + length (textsOf es)
-  pub words : o′ ≡ stored o (p .rows * 4) (flats (p .text) es)
-  pub bytes : t′ ≡ stored t (p .text) (textsOf es)
+abbrev pub Laid : Place → Place → List E → (o o′ t t′ : List ℕ) → Type 0
+Laid q p es o o′ t t′ = Put q p (rowsOf es) (flats (p .text) es) (textsOf es) o o′ t t′
