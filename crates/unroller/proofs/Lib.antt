@@ -2,3 +2,4 @@
 pub mod Sizes
 pub mod Stores
 pub mod Moves
+pub mod Agains

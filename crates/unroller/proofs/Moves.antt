@@ -15,10 +15,13 @@ use Rattle.grammar.specs.Text.{joined, textOf, spans, packed}
 use Rattle.rows.specs.declared.Shape.{Shape}
 use Rattle.rows.specs.declared.Shape.the-variants.{Lit, Num, One, Two, Skips}
 use Rattle.rows.specs.Rows.{kindAt, xAt, yAt, sizeAt, shapeOf, At, AtStrs}
-use Rattle.rows.proofs.Laws.{headOf, root, at-un, at-left, at-right, at-strs, at-first, at-others, size-pos}
+use Rattle.rows.proofs.Laws.{Found, headOf, root, at-un, at-left, at-right, at-strs, at-first, at-others, size-pos}
 use Rattle.rows.proofs.Views.{shapeIn, shape-in}
+use Rattle.writing.specs.Writes.{stored}
+use Rattle.writing.proofs.Runs.{stored-then}
 use Rattle.writing.proofs.Trees.{length-spans, size-packed}
-use Rattle.unroller.specs.Copies.{movedBy, movedRow, moved}
+use Rattle.unroller.specs.Copies.{movedBy, movedRow, moved, Movable}
+use Rattle.unroller.proofs.Stores.{stored-word}
 
 module _ (d : ℕ) (w : List ℕ) where
   pub moved-more : (i n : ℕ) → moved d w i (n + 1) ≡ moved d w i n ++ movedRow d w (i + n)
@@ -60,6 +63,45 @@ module _ (d : ℕ) (w : List ℕ) where
       let f₁ = tree-moved o (i - 1 - size (packed x r)) j l (at-left a) (omega (arith, size-pos l, s)) in
       let f₂ = tree-moved x (i - 1) (j + size l) r (at-right a) (omega (arith, size-pos r)) in
       moved-more j (size l + size r) ∙ rw (moved-add j (size l) (size r), f₁, f₂, n, root-moved a, size-packed o l, s, size-packed (o + d) l, g, size-packed (o + d + length (textOf l)) r) (simp append-assoc)
+
+-- ---- one row, as the code moves it
+
+pub length-moved : (d : ℕ) (w : List ℕ) (i n : ℕ) → length (moved d w i n) ≡ n * 4
+unfolding movedRow
+length-moved d w i zero = refl
+length-moved d w i (suc n) = simp length-append (omega (arith, length-moved d w i n))
+
+not-moved : (s : Shape) (d x : ℕ) → (s ≡ Lit → ⊥) → movedBy s d x ≡ x
+not-moved Lit d x n = absurd (n refl)
+not-moved Num d x n = refl
+not-moved One d x n = refl
+not-moved Two d x n = refl
+not-moved Skips d x n = refl
+
+module _ {w : List ℕ} {i k x y n : ℕ} (d : ℕ) (f : Found w i k x y n) where
+  pub lit-moved : shapeOf k ≡ Lit → row (k, x + d, y) n ≡ movedRow d w i
+  unfolding movedRow
+  lit-moved h = rw (f .kind, f .x, f .y, f .rows, h)
+
+  pub other-moved : (shapeOf k ≡ Lit → ⊥) → row (k, x, y) n ≡ movedRow d w i
+  unfolding movedRow
+  other-moved h = rw (f .kind, f .x, f .y, f .rows, not-moved (shapeOf k) d x h)
+
+module _ (d : ℕ) (o v : List ℕ) (i j : ℕ) (h : i < j) where
+  pub front-moved : movedRow d (stored o (j * 4) v) i ≡ movedRow d o i
+  unfolding movedRow kindAt xAt yAt sizeAt
+  front-moved =
+      rw (stored-word o v (j * 4) (i * 4) (omega arith), stored-word o v (j * 4) (i * 4 + 1) (omega arith), stored-word o v (j * 4) (i * 4 + 2) (omega arith), stored-word o v (j * 4) (i * 4 + 3) (omega arith))
+
+  pub front-movable : Movable d o i → Movable d (stored o (j * 4) v) i
+  unfolding kindAt xAt
+  front-movable m = rw (stored-word o v (j * 4) (i * 4) (omega arith), stored-word o v (j * 4) (i * 4 + 1) (omega arith)) m
+
+-- one row more
+pub move-more : (d : ℕ) (o o₁ o₂ : List ℕ) (i j k : ℕ) → i + k < j → o₁ ≡ stored o (j * 4) (moved d o i k) → o₂ ≡ stored o₁ ((j + k) * 4) (movedRow d o₁ (i + k)) → o₂ ≡ stored o (j * 4) (moved d o i (k + 1))
+move-more d o o₁ o₂ i j k h e f =
+    stored-then o o₁ o₂ (moved d o i k) (movedRow d o (i + k)) (j * 4) ((j + k) * 4) e (omega (arith, length-moved d o i k)) (f ∙ (rw e (rw (front-moved d o (moved d o i k) (i + k) j h))))
+    ∙ rw (moved-more d o i k)
 
 -- every literal of a packed tree lies in its text
 by-le : {A : Type 0} (a b : ℕ) → (a ≤ b → A) → (b < a → A) → A

@@ -3,8 +3,8 @@ use mathlib.Core.Path.{_≡_, refl, sym, ap, subst, _∙_}
 use mathlib.Core.List.{List, [], _∷_, _++_, append-assoc}
 use Prim.Native.Nat.{ℕ, zero, suc, _+_, _-_, _*_, _≤_, _<_}
 use native.Mathlib.Omega.{arith}
-use lib.ListN.{length, take, drop, set, take-append-drop, length-append, length-take, length-drop}
-use lib.Seq.{sets, sets-eq, take-set-le, drop-set-lt, take-at, drop-at, drop-append-le, take-take, drop-drop, length-take-le, take-append-seam}
+use lib.ListN.{length, getD, take, drop, set, take-append-drop, length-append, length-take, length-drop}
+use lib.Seq.{sets, sets-eq, take-set-le, drop-set-lt, take-at, drop-at, drop-append-le, take-take, getD-take, drop-drop, length-take-le, take-append-seam}
 use Rattle.grammar.specs.Tree.{Expr, size}
 use Rattle.grammar.specs.Rows.{Span, flat}
 use Rattle.grammar.specs.Text.{bytesAt}
@@ -45,6 +45,9 @@ part-front (a ∷ w) (suc x) n (suc m) h = part-front w x n m (omega arith)
 
 pub stored-before : (o v : List ℕ) (i x n : ℕ) → x + n ≤ i → bytesAt (stored o i v) (x, n) ≡ bytesAt o (x, n)
 stored-before o v i x n h = sym (part-front (stored o i v) x n i h) ∙ ap (λ (w : List ℕ). bytesAt w (x, n)) (stored-front o v i i (omega arith)) ∙ part-front o x n i h
+
+pub stored-word : (o v : List ℕ) (i k : ℕ) → k < i → getD (stored o i v) k 0 ≡ getD o k 0
+stored-word o v i k h = sym (getD-take i (stored o i v) k 0 h) ∙ ap (λ (w : List ℕ). getD w k 0) (stored-front o v i i (omega arith)) ∙ getD-take i o k 0 h
 
 -- what stands there, stored again
 pub stored-same : (o v : List ℕ) (i n : ℕ) → bytesAt o (i, n) ≡ v → i + n ≤ length o → stored o i v ≡ o

@@ -11,7 +11,7 @@ use Rattle.rows.specs.declared.Shape.{Shape}
 use Rattle.rows.specs.declared.Shape.the-variants.{Lit, Num, One, Two, Skips}
 use Rattle.rows.specs.Rows.{kindAt, xAt, yAt, sizeAt, shapeOf, At}
 use Rattle.writing.specs.declared.Place.{Place}
-use Rattle.writing.specs.Writes.{Put}
+use Rattle.writing.specs.Writes.{Areas, Put, Fits}
 
 -- the x word of a row moved with its text by d: an offset moves, a number does not
 abbrev pub movedBy : Shape → ℕ → ℕ → ℕ
@@ -40,6 +40,15 @@ pub record Source (p q : Place) (e : E) (o t : List ℕ) : Type 0 where
   pub at : At o (q .rows - 1) (packed (p .text) e)
   pub bytes : bytesAt t (p .text, length (textOf e)) ≡ textOf e
   pub within : q .text ≤ length t
+
+-- it can be copied to `at`, behind it
+pub record Copyable (p q at : Place) (o t : List ℕ) : Type 0 where
+  pub tree : E
+  pub source : Source p q tree o t
+  pub behind : q .rows ≤ at .rows
+  pub beyond : q .text ≤ at .text
+  pub fits : Fits at tree o t
+  pub areas : Areas o t
 
 -- the rows, the texts and the packed words of several trees
 abbrev pub rowsOf : List E → ℕ

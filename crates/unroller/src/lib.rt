@@ -2,6 +2,10 @@
 ghost use mathlib.Core.Path.{_≡_};
 ghost use Prim.Native.Nat.{ℕ, _+_, _*_, _/_, _^_, _≤_, _<_};
 ghost use lib.ListN.{length};
+ghost use Rattle.grammar.specs.Tree.{E};
+ghost use Rattle.grammar.specs.Text.{bytesAt};
+ghost use Rattle.writing.specs.Writes.{stored, Written};
+ghost use Rattle.unroller.specs.Copies.{movedRow, moved, Movable, Source, Copyable};
 use rows::Lookup;
 use rows::Shape;
 use writing::Place;
@@ -19,4 +23,64 @@ pub struct Items {
     pub plain: usize,
     pub opts: usize,
     pub reps: usize,
+}
+
+// Copies n bytes of the text from x to `at`, further on in it.
+fn copy_on(lits: &mut [u8], x: usize, n: usize, at: usize)
+    requires { ⌜ (x + n ≤ at) × (at + n ≤ length (now lits)) ⌝ }
+    ensures { λ _. ⌜ now (lits .exit) ≡ stored (now (lits .entry)) at (bytesAt (now (lits .entry)) (x, n)) ⌝ }
+{
+    let mut i = 0;
+    while i < n {
+        lits[at + i] = lits[x + i];
+        i += 1;
+    }
+}
+
+// Copies row i to row j; an offset moves by d.
+fn move_row(out: &mut [u32], i: usize, j: usize, d: u32)
+    requires { ⌜ (i < length (now out) / 4) × (j < length (now out) / 4) ⌝ }
+    requires { ⌜ Movable d (now out) i ⌝ }
+    ensures { λ _. ⌜ now (out .exit) ≡ stored (now (out .entry)) (j * 4) (movedRow d (now (out .entry)) i) ⌝ }
+{
+    let Lookup::Row { kind, x, y, size } = rows::row_at(out, i) else {
+        return;
+    };
+    if let Shape::Lit = rows::shape_of(kind) {
+        writing::set_row(out, j, kind, x + d, y, size);
+    } else {
+        writing::set_row(out, j, kind, x, y, size);
+    }
+}
+
+// Copies n rows from row i to row j, further on; offsets move by d.
+fn move_rows(out: &mut [u32], i: usize, n: usize, j: usize, d: u32)
+    requires { ⌜ (i + n ≤ j) × (j + n ≤ length (now out) / 4) ⌝ }
+    requires { ⌜ ((k : ℕ) → k < n → Movable d (now out) (i + k)) ⌝ }
+    ensures { λ _. ⌜ now (out .exit) ≡ stored (now (out .entry)) (j * 4) (moved d (now (out .entry)) i n) ⌝ }
+{
+    let mut k = 0;
+    while k < n {
+        move_row(out, i + k, j + k, d);
+        k += 1;
+    }
+}
+
+// Writes a copy of the tree that stands from p to q, at `at`.
+fn again(out: &mut [u32], lits: &mut [u8], p: Place, q: Place, at: Place) -> Place
+    requires { ⌜ Copyable p q at (now out) (now lits) ⌝ }
+    ensures { λ a. ⌜ ((e : E) → Source p q e (now (out .entry)) (now (lits .entry)) → Written a at e (now (out .entry)) (now (out .exit)) (now (lits .entry)) (now (lits .exit))) ⌝ }
+{
+    let i = p.rows;
+    let n = q.rows - i;
+    let x = p.text;
+    let m = q.text - x;
+    let j = at.rows;
+    let y = at.text;
+    move_rows(out, i, n, j, (y - x) as u32);
+    copy_on(lits, x, m, y);
+    Place {
+        rows: j + n,
+        text: y + m,
+    }
 }
