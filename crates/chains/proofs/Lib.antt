@@ -1,0 +1,3 @@
+-- Laws of chains, that step proofs use.
+pub mod Trees
+pub mod Closes
