@@ -1,5 +1,6 @@
 -- Laws of unrolling.
 pub mod Sizes
+pub mod Repeats
 pub mod Stores
 pub mod Moves
 pub mod Agains

@@ -10,6 +10,7 @@ use Rattle.grammar.specs.Text.{bytesAt, textOf, packed}
 use Rattle.rows.specs.declared.Shape.{Shape}
 use Rattle.rows.specs.declared.Shape.the-variants.{Lit, Num, One, Two, Skips}
 use Rattle.rows.specs.Rows.{kindAt, xAt, yAt, sizeAt, shapeOf, At}
+use Rattle.chains.specs.Chains.{sizes, flats, texts, packs}
 use Rattle.writing.specs.declared.Place.{Place}
 use Rattle.writing.specs.Writes.{Areas, Put, Fits}
 
@@ -50,19 +51,6 @@ pub record Copyable (p q at : Place) (o t : List ℕ) : Type 0 where
   pub fits : Fits at tree o t
   pub areas : Areas o t
 
--- the rows, the texts and the packed words of several trees
-abbrev pub rowsOf : List E → ℕ
-rowsOf [] = 0
-rowsOf (e ∷ es) = size e + rowsOf es
-
-abbrev pub textsOf : List E → Bytes
-textsOf [] = []
-textsOf (e ∷ es) = textOf e ++ textsOf es
-
-abbrev pub flats : ℕ → List E → List ℕ
-flats o [] = []
-flats o (e ∷ es) = flat (packed o e) ++ flats (o + length (textOf e)) es
-
 -- the packed trees es stand one after another from p to q, and nothing else of the areas has changed
 abbrev pub Laid : Place → Place → List E → (o o′ t t′ : List ℕ) → Type 0
-Laid q p es o o′ t t′ = Put q p (rowsOf es) (flats (p .text) es) (textsOf es) o o′ t t′
+Laid q p es o o′ t t′ = Put q p (sizes es) (flats (packs (p .text) es)) (texts es) o o′ t t′

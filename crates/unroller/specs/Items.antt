@@ -1,12 +1,12 @@
--- A repeat as items: what `unrolled` nests, and where no count is zero. Assumes nothing.
+-- A repeat as items: how many of each, what `unrolled` nests, and where no count is zero. Assumes nothing.
 use mathlib.Core.Path.{_≡_}
-use mathlib.Core.Bool.{false}
-use mathlib.Core.List.{List, [], _∷_, _++_}
-use Prim.Native.Nat.{ℕ, _+_, _*_, _^_, _≤_, _<_}
-use lib.ListN.{length, replicate}
-use Rattle.grammar.specs.Tree.{Un, Opt, Rep, Expr, E, un, anyNode}
+use mathlib.Core.Bool.{Bool, true, false}
+use mathlib.Core.List.{List, _++_}
+use Prim.Native.Nat.{ℕ, _+_, _-_, _*_, _≤_, min}
+use lib.ListN.{replicate}
+use lib.Dec.{eqb}
+use Rattle.grammar.specs.Tree.{Opt, Rep, Expr, E, un, anyNode}
 use Rattle.grammar.specs.Rows.{Span}
-use Rattle.grammar.specs.Steps.{nest, unrolled}
 use Rattle.grammar.specs.Refusals.{zeroCount}
 use Rattle.rows.specs.Rows.{At}
 use Rattle.unroller.specs.declared.Item.{Item}
@@ -25,16 +25,30 @@ itemOf Once e = e
 itemOf Maybe e = un Opt e
 itemOf Many e = un Rep e
 
--- e as often as `plain` says, then e?, then e*
+-- the items in order: e, then e?, then e*
 abbrev pub itemsOf : Items → E → List E
 itemsOf n e = replicate (n .plain) e ++ (replicate (n .opts) (un Opt e) ++ replicate (n .reps) (un Rep e))
 
--- how many items there are
+-- how many there are
 abbrev pub countOf : Items → ℕ
 countOf n = n .plain + (n .opts + n .reps)
 
--- n are the items of the repeat u: at least one, and no more than a word counts and one
-pub record ItemsOf (n : Items) (u : Un) : Type 0 where
-  pub is : (e : E) → unrolled u e ≡ nest (itemsOf n e)
-  pub least : 1 ≤ countOf n
-  pub most : countOf n ≤ 2 ^ 32
+abbrev pub items : ℕ → ℕ → ℕ → Items
+items a b c = record { plain = a; opts = b; reps = c }
+
+abbrev pub pickItems : Bool → Items → Items → Items
+pickItems true a b = a
+pickItems false a b = b
+
+-- the items of a repeat, by its row: RepOnce, RepExact, RepMin, RepMax, RepMinMax
+unfoldable pub itemsFor : ℕ → ℕ → ℕ → Items
+itemsFor k x y =
+    pickItems (eqb k 12) (items 1 0 1)
+    (pickItems (eqb k 13) (items x 0 0)
+    (pickItems (eqb k 14) (items x 0 1)
+    (pickItems (eqb k 15) (items 0 x 0) (items (min x y) (y - x) 0))))
+
+-- so many rows and bytes hold the items of a tree with s rows and b bytes: each item has a Seq row, but for the last
+pub record Holds (rows text s b : ℕ) (n : Items) : Type 0 where
+  pub bytes : countOf n * b ≤ text
+  pub words : n .plain * (s + 1) + (n .opts + n .reps) * (s + 2) ≤ rows + 1
