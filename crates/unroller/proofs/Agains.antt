@@ -10,10 +10,11 @@ use Rattle.grammar.specs.Text.{bytesAt, textOf, packed}
 use Rattle.rows.proofs.Laws.{size-pos}
 use Rattle.writing.specs.declared.Place.{Place}
 use Rattle.writing.specs.Writes.{stored, Written}
+use Rattle.unroller.specs.declared.Item.the-variants.{Once}
 use Rattle.unroller.specs.Copies.{moved, Movable, Source, Copyable}
 use Rattle.unroller.proofs.Moves.{tree-moved, tree-inside}
 
-module _ {p q at : Place} {o t : List ℕ} (c : Copyable p q at o t) where
+module _ {p q at : Place} {o t : List ℕ} (c : Copyable p q at Once o t) where
   -- its offsets can be moved
   pub again-movable : (k : ℕ) → k < q .rows - p .rows → Movable (at .text - p .text) o (p .rows + k)
   again-movable k h z =

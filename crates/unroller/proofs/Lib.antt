@@ -4,3 +4,5 @@ pub mod Repeats
 pub mod Stores
 pub mod Moves
 pub mod Agains
+pub mod Lays
+pub mod Spreads

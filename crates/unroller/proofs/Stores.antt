@@ -74,3 +74,10 @@ at-front {o} {o′} {i} {r} e a = record {
       sym (take-append-drop (i * 4 + 4) o′) ∙ rw (e, f) (append-assoc (a .before) (flat r) (drop (i * 4 + 4) o′));
   place = a .place;
 }
+
+-- the rows of a tree that stands
+pub at-run : {o : List ℕ} {i : ℕ} (j : ℕ) {n : ℕ} {r : Expr Span} → At o i r → n ≡ size r * 4 → j + n ≡ i * 4 + 4 → bytesAt o (j, n) ≡ flat r
+at-run {o} {i} j {n} {r} a e h =
+    ap (λ (w : List ℕ). bytesAt w (j, n)) (a .whole)
+    ∙ ap (take n) (drop-at (a .before) (flat r ++ a .after) j (omega (arith, a .place)))
+    ∙ take-at (flat r) (a .after) n (length-flat r ∙ sym e)

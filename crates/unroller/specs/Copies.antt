@@ -4,15 +4,21 @@ use mathlib.Core.List.{List, [], _∷_, _++_}
 use Prim.Native.Nat.{ℕ, zero, suc, _+_, _-_, _*_, _/_, _^_, _≤_, _<_}
 use lib.ListN.{length}
 use Rattle.grammar.specs.Basic.{Bytes}
-use Rattle.grammar.specs.Tree.{E, size}
+use mathlib.Core.Bool.{false}
+use Rattle.grammar.specs.Tree.{Head, Un, E, unHead, size}
 use Rattle.grammar.specs.Rows.{row, flat}
 use Rattle.grammar.specs.Text.{bytesAt, textOf, packed}
+use Rattle.grammar.specs.Refusals.{zeroUn}
 use Rattle.rows.specs.declared.Shape.{Shape}
 use Rattle.rows.specs.declared.Shape.the-variants.{Lit, Num, One, Two, Skips}
 use Rattle.rows.specs.Rows.{kindAt, xAt, yAt, sizeAt, shapeOf, At}
 use Rattle.chains.specs.Chains.{sizes, flats, texts, packs}
 use Rattle.writing.specs.declared.Place.{Place}
-use Rattle.writing.specs.Writes.{Areas, Put, Fits}
+use Rattle.unroller.specs.declared.Item.{Item}
+use Rattle.unroller.specs.declared.Item.the-variants.{Once, Maybe, Many}
+use Rattle.unroller.specs.declared.Items.{Items}
+use Rattle.unroller.specs.Items.{itemOf, itemsOf, countOf}
+use Rattle.writing.specs.Writes.{Areas, Fit, Put, Fits}
 
 -- the x word of a row moved with its text by d: an offset moves, a number does not
 abbrev pub movedBy : Shape → ℕ → ℕ → ℕ
@@ -42,14 +48,60 @@ pub record Source (p q : Place) (e : E) (o t : List ℕ) : Type 0 where
   pub bytes : bytesAt t (p .text, length (textOf e)) ≡ textOf e
   pub within : q .text ≤ length t
 
--- it can be copied to `at`, behind it
-pub record Copyable (p q at : Place) (o t : List ℕ) : Type 0 where
+-- an item of it can be written at `at`, behind it
+pub record Copyable (p q at : Place) (i : Item) (o t : List ℕ) : Type 0 where
   pub tree : E
   pub source : Source p q tree o t
   pub behind : q .rows ≤ at .rows
   pub beyond : q .text ≤ at .text
-  pub fits : Fits at tree o t
+  pub fits : Fits at (itemOf i tree) o t
   pub areas : Areas o t
+
+-- so can n items
+pub record Repeatable (p q at : Place) (n : ℕ) (i : Item) (o t : List ℕ) : Type 0 where
+  pub tree : E
+  pub source : Source p q tree o t
+  pub behind : q .rows ≤ at .rows
+  pub beyond : q .text ≤ at .text
+  pub fits : Fit at (n * size (itemOf i tree)) (n * length (textOf tree)) o t
+  pub areas : Areas o t
+
+-- the items of a repeat of it fit, from p on
+pub record Layable (p q : Place) (n : Items) (o t : List ℕ) : Type 0 where
+  pub tree : E
+  pub source : Source p q tree o t
+  pub least : 1 ≤ countOf n
+  pub fits : Fit p (sizes (itemsOf n tree)) (length (texts (itemsOf n tree))) o t
+  pub areas : Areas o t
+
+-- it can be repeated, if there is room
+pub record Spreadable (p q : Place) (n : Items) (o t : List ℕ) : Type 0 where
+  pub tree : E
+  pub source : Source p q tree o t
+  pub least : 1 ≤ countOf n
+  pub most : countOf n ≤ 2 ^ 32
+  pub areas : Areas o t
+
+-- kind, x and y are those of a node with one child, whose count is not a zero that refusal 6 forbids, over the tree from p to q
+pub record Countable (p q : Place) (h : Head) (o t : List ℕ) : Type 0 where
+  pub op : Un
+  pub is : h ≡ unHead op
+  pub counts : zeroUn op ≡ false
+  pub tree : E
+  pub source : Source p q tree o t
+  pub areas : Areas o t
+  pub words : (h .1 < 2 ^ 32) × (h .2 < 2 ^ 32)
+
+-- the rows of an item behind the tree itself
+abbrev pub behindOf : Item → ℕ
+behindOf Once = 0
+behindOf Maybe = 1
+behindOf Many = 1
+
+pub record Finishable (p q : Place) (i : Item) (o : List ℕ) : Type 0 where
+  pub least : p .rows ≤ q .rows
+  pub most : q .rows + behindOf i ≤ length o / 4
+  pub words : length o < 2 ^ 32
 
 -- the packed trees es stand one after another from p to q, and nothing else of the areas has changed
 abbrev pub Laid : Place → Place → List E → (o o′ t t′ : List ℕ) → Type 0

@@ -1,14 +1,16 @@
 // Unroll: a counted repeat becomes its items, nested to the right.
 ghost use mathlib.Core.Path.{_≡_};
-ghost use mathlib.Core.List.{_∷_};
-ghost use Prim.Native.Nat.{ℕ, _+_, _*_, _/_, _^_, _≤_, _<_};
-ghost use lib.ListN.{length};
-ghost use Rattle.grammar.specs.Tree.{E};
+ghost use mathlib.Core.List.{List, _∷_};
+ghost use Prim.Native.Nat.{ℕ, _+_, _-_, _*_, _/_, _^_, _≤_, _<_};
+ghost use lib.ListN.{length, replicate};
+ghost use Rattle.grammar.specs.Tree.{Un, unHead, E};
+ghost use Rattle.grammar.specs.Steps.{nest, unrolled};
 ghost use Rattle.grammar.specs.Text.{bytesAt};
-ghost use Rattle.writing.specs.Writes.{stored, Written};
+ghost use Rattle.writing.specs.Writes.{stored, RowPut, Written, Answer};
 ghost use Rattle.rows.specs.Rows.{Tells};
+ghost use Rattle.unroller.specs.declared.Item.the-variants.{Once};
 ghost use Rattle.unroller.specs.Items.{itemOf, itemsOf, countOf, itemsFor, Holds};
-ghost use Rattle.unroller.specs.Copies.{movedRow, moved, Movable, Source, Copyable};
+ghost use Rattle.unroller.specs.Copies.{movedRow, moved, Movable, Source, Copyable, Repeatable, Finishable, Layable, Spreadable, Countable, Laid};
 use rows::Lookup;
 use rows::Shape;
 use writing::Place;
@@ -181,7 +183,7 @@ fn move_rows(out: &mut [u32], i: usize, n: usize, j: usize, d: u32)
 
 // Writes a copy of the tree that stands from p to q, at `at`.
 fn again(out: &mut [u32], lits: &mut [u8], p: Place, q: Place, at: Place) -> Place
-    requires { ⌜ Copyable p q at (now out) (now lits) ⌝ }
+    requires { ⌜ Copyable p q at Once (now out) (now lits) ⌝ }
     ensures { λ a. ⌜ ((e : E) → Source p q e (now (out .entry)) (now (lits .entry)) → Written a at e (now (out .entry)) (now (out .exit)) (now (lits .entry)) (now (lits .exit))) ⌝ }
 {
     let i = p.rows;
@@ -196,4 +198,91 @@ fn again(out: &mut [u32], lits: &mut [u8], p: Place, q: Place, at: Place) -> Pla
         rows: j + n,
         text: y + m,
     }
+}
+
+// Writes the row of a kind over the tree that stands from p to q.
+fn over(out: &mut [u32], p: Place, q: Place, kind: u32) -> Place
+    requires { ⌜ (p .rows ≤ q .rows) × (q .rows < length (now out) / 4) × (length (now out) < 2 ^ 32) ⌝ }
+    ensures { λ a. ⌜ RowPut a q (kind, 0, 0) (q .rows - p .rows + 1) (now (out .entry)) (now (out .exit)) ⌝ }
+{
+    let at = q.rows;
+    let size = at - p.rows + 1;
+    writing::set_row(out, at, kind, 0, 0, size as u32);
+    Place {
+        rows: at + 1,
+        text: q.text,
+    }
+}
+
+// Makes an item of the tree that stands from p to q.
+fn finish(out: &mut [u32], p: Place, q: Place, item: Item) -> Place
+    requires { ⌜ Finishable p q item (now out) ⌝ }
+    ensures { λ a. ⌜ ((e : E) (o t u : List ℕ) → Written q p e o (now (out .entry)) t u → Written a p (itemOf item e) o (now (out .exit)) t u) ⌝ }
+{
+    match item {
+        Item::Once => q,
+        Item::Maybe => over(out, p, q, 10),
+        Item::Many => over(out, p, q, 11),
+    }
+}
+
+// Writes an item of the tree that stands from p to q, at `at`.
+fn next(out: &mut [u32], lits: &mut [u8], p: Place, q: Place, at: Place, item: Item) -> Place
+    requires { ⌜ Copyable p q at item (now out) (now lits) ⌝ }
+    ensures { λ a. ⌜ ((e : E) → Source p q e (now (out .entry)) (now (lits .entry)) → Written a at (itemOf item e) (now (out .entry)) (now (out .exit)) (now (lits .entry)) (now (lits .exit))) ⌝ }
+{
+    let s = again(out, lits, p, q, at);
+    finish(out, at, s, item)
+}
+
+// Writes n items of the tree that stands from p to q, from `at` on.
+fn repeat(
+    out: &mut [u32],
+    lits: &mut [u8],
+    p: Place,
+    q: Place,
+    at: Place,
+    n: usize,
+    item: Item,
+) -> Place
+    requires { ⌜ Repeatable p q at n item (now out) (now lits) ⌝ }
+    ensures { λ a. ⌜ ((e : E) → Source p q e (now (out .entry)) (now (lits .entry)) → Laid a at (replicate n (itemOf item e)) (now (out .entry)) (now (out .exit)) (now (lits .entry)) (now (lits .exit))) ⌝ }
+{
+    let mut s = at;
+    let mut i = 0;
+    while i < n {
+        s = next(out, lits, p, q, s, item);
+        i += 1;
+    }
+    s
+}
+
+// Writes the items of a repeat of the tree that stands from p to q, one after another from p on.
+fn lay(out: &mut [u32], lits: &mut [u8], p: Place, q: Place, n: Items) -> Place
+    requires { ⌜ Layable p q n (now out) (now lits) ⌝ }
+    ensures { λ a. ⌜ ((e : E) → Source p q e (now (out .entry)) (now (lits .entry)) → Laid a p (itemsOf n e) (now (out .entry)) (now (out .exit)) (now (lits .entry)) (now (lits .exit))) ⌝ }
+{
+    let f = first_of(n);
+    let item = f.item;
+    let rest = f.rest;
+    let a = finish(out, p, q, item);
+    let b = repeat(out, lits, p, q, a, rest.plain, Item::Once);
+    let c = repeat(out, lits, p, q, b, rest.opts, Item::Maybe);
+    repeat(out, lits, p, q, c, rest.reps, Item::Many)
+}
+
+// Writes the nested items of a repeat of the tree that stands from p to q, from p on.
+fn spread(out: &mut [u32], lits: &mut [u8], p: Place, q: Place, n: Items) -> Wrote
+    requires { ⌜ Spreadable p q n (now out) (now lits) ⌝ }
+    ensures { λ a. ⌜ ((e : E) → Source p q e (now (out .entry)) (now (lits .entry)) → Answer a p (nest (itemsOf n e)) (now (out .entry)) (now (out .exit)) (now (lits .entry)) (now (lits .exit))) ⌝ }
+{
+    let i = p.rows;
+    let x = p.text;
+    // known before anything is copied
+    if !hold(out.len() / 4 - i, lits.len() - x, q.rows - i, q.text - x, n) {
+        return Wrote::Full;
+    }
+    let s = lay(out, lits, p, q, n);
+    let others = n.plain + (n.opts + n.reps) - 1;
+    chains::close(out, s, 8, others)
 }
