@@ -49,7 +49,7 @@ written-source {q} {p} {e} {o} {o′} {t} {t′} w =
     }
 
 module _ {p q : Place} {e : E} {o t : List ℕ} (s : Source p q e o t) where
-  source-rows : q .rows ≤ length o / 4
+  pub source-rows : q .rows ≤ length o / 4
   source-rows = omega (arith, root (s .at) .inside, s .rows, size-pos e)
 
   pub source-written : Written q p e o o t t

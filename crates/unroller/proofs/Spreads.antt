@@ -9,7 +9,6 @@ use Rattle.grammar.specs.Tree.{Opt, Rep, Bin, Seq, binKind, Expr, E, un, size}
 use Rattle.grammar.specs.Rows.{Span, flat}
 use Rattle.grammar.specs.Text.{textOf, packed}
 use Rattle.grammar.specs.Steps.{nest}
-use Rattle.rows.proofs.Laws.{root, size-pos}
 use Rattle.writing.specs.declared.Place.{Place}
 use Rattle.writing.specs.declared.Wrote.{Wrote}
 use Rattle.writing.specs.declared.Wrote.the-variants.{Done, Full}
@@ -25,7 +24,7 @@ use Rattle.unroller.specs.declared.Items.{Items}
 use Rattle.unroller.specs.Items.{itemOf, itemsOf, countOf, Holds}
 use Rattle.unroller.specs.Copies.{Source, Repeatable, Layable, Spreadable, Finishable, Laid, behindOf}
 use Rattle.unroller.proofs.Sizes.{weigh, nest-size, weigh-append, weigh-replicate, bytesOf, nest-bytes, bytes-append, bytes-replicate}
-use Rattle.unroller.proofs.Lays.{written-source, source-written, source-put, item-size, item-text, item-source, laid-append, written-laid, sizes-replicate, texts-replicate}
+use Rattle.unroller.proofs.Lays.{source-rows, written-source, source-written, source-put, item-size, item-text, item-source, laid-append, written-laid, sizes-replicate, texts-replicate}
 
 -- ---- laying
 
@@ -134,11 +133,8 @@ nest-weighs (e ∷ es) h = nest-bytes e es
 
 -- the size test is exact
 module _ {p q : Place} {e : E} {o t : List ℕ} (n : Items) (s : Source p q e o t) (h : 1 ≤ countOf n) where
-  some : 1 ≤ length (itemsOf n e)
+  pub some : 1 ≤ length (itemsOf n e)
   some = omega (arith, items-count n e)
-
-  source-rows : q .rows ≤ length o / 4
-  source-rows = omega (arith, root (s .at) .inside, s .rows, size-pos e)
 
   same-size : q .rows - p .rows ≡ size e
   same-size = omega (arith, s .rows)
@@ -157,7 +153,7 @@ module _ {p q : Place} {e : E} {o t : List ℕ} (n : Items) (s : Source p q e o 
 
   pub holds-fit : Test → Fits p (nest (itemsOf n e)) o t
   holds-fit g = let k : Holds (length o / 4 - p .rows) (length t - p .text) (size e) (length (textOf e)) n = rw (same-size, same-bytes) at g in record {
-    rows = omega (arith, k .words, nest-weigh (itemsOf n e) some, items-weigh n e, source-rows, s .rows);
+    rows = omega (arith, k .words, nest-weigh (itemsOf n e) some, items-weigh n e, source-rows s, s .rows);
     text = omega (arith, k .bytes, nest-weighs (itemsOf n e) some, items-bytes n e, s .text, s .within);
   }
 
@@ -175,3 +171,80 @@ module _ {p q : Place} {e : E} {o t : List ℕ} (n : Items) (s : Source p q e o 
         };
         areas = a;
       }
+
+-- ---- nesting
+
+-- the last of some trees, and those before
+record Ends (es : List E) : Type 0 where
+  init : List E
+  last : E
+  is : es ≡ init ++ (last ∷ [])
+
+as-ends : (es : List E) → 1 ≤ length es → Ends es
+as-ends [] h = absurd (omega arith)
+as-ends (e ∷ []) h = record { init = []; last = e; is = refl }
+as-ends (e ∷ f ∷ es) h = let v = as-ends (f ∷ es) (omega arith) in record { init = e ∷ v .init; last = v .last; is = ap (λ (l : List E). e ∷ l) (v .is) }
+
+module _ {s p : Place} (es : List E) {o o₁ t t₁ : List ℕ} (l : Laid s p es o o₁ t t₁) (h : 1 ≤ length es) (f : Fits p (nest es) o t) where
+  abbrev v : Ends es
+  v = as-ends es h
+
+  abbrev xs : List (Expr Span)
+  xs = packs (p .text) (v .init)
+
+  abbrev r : Expr Span
+  r = packed (p .text + length (texts (v .init))) (v .last)
+
+  laid-words : o₁ ≡ stored o (p .rows * 4) (flats xs ++ flat r)
+  laid-words =
+      l .words
+      ∙ ap (λ (x : List E). stored o (p .rows * 4) (flats (packs (p .text) x))) (v .is)
+      ∙ rw (packs-append (p .text) (v .init) (v .last ∷ []), flats-append xs (r ∷ []), append-nil (flat r))
+
+  laid-rows : s .rows ≡ p .rows + (sizes xs + size r)
+  laid-rows =
+      omega (arith, l .rows, ap sizes (v .is), sizes-append (v .init) (v .last ∷ []), sizes-packs (p .text) (v .init), size-packed (p .text + length (texts (v .init))) (v .last))
+
+  laid-room : s .rows ≤ length o / 4
+  laid-room = omega (arith, l .rows, l .fits .rows)
+
+  abbrev before : List ℕ
+  before = take (p .rows * 4) o
+
+  forest : Forest o₁ (s .rows) before xs r
+  forest = forest-stored o o₁ (p .rows) (s .rows) xs r laid-words laid-rows laid-room
+
+  count : {n : ℕ} → n ≡ length es - 1 → length xs ≡ n
+  count c = omega (arith, length-packs (p .text) (v .init), ap length (v .is), length-append (v .init) (v .last ∷ []), c)
+
+  pub closable : {n : ℕ} → n ≡ length es - 1 → length o < 2 ^ 32 → Closable o₁ (s .rows) n
+  closable c w = record {
+    before = before;
+    trees = xs;
+    tree = r;
+    forest = forest;
+    count = count c;
+    room = omega (arith, f .rows, nest-weigh es h, weigh-sizes es, l .rows, put-out l, c);
+    words = omega (arith, w, put-out l);
+  }
+
+  nest-is : nest es ≡ chain Seq (v .init) (v .last)
+  nest-is = ap nest (v .is) ∙ nest-chain (v .init) (v .last)
+
+  nest-text : textOf (nest es) ≡ texts es
+  nest-text = ap textOf nest-is ∙ text-chain Seq (v .init) (v .last) ∙ sym (ap texts (v .is) ∙ texts-append (v .init) (v .last ∷ []) ∙ ap (λ (u : List ℕ). texts (v .init) ++ u) (append-nil (textOf (v .last))))
+
+  nested : (a : Wrote) (o₂ : List ℕ) → ClosedAnswer a s Seq xs r o₁ o₂ → Answer a p (nest es) o o₂ t t₁
+  nested (Done q) o₂ c = record {
+    fits = f;
+    rows = omega (arith, c .rows, l .rows, nest-weigh es h, weigh-sizes es, count refl, h);
+    text = omega (arith, c .text, l .text, nest-weighs es h, bytes-texts es);
+    words = chain-stored o o₁ (p .rows) (s .rows) xs r laid-words laid-rows laid-room refl c ∙ rw (nest-is, packed-chain (p .text) Seq (v .init) (v .last));
+    bytes = l .bytes ∙ rw nest-text;
+  }
+  nested Full o₂ c = absurd c
+
+  pub nested-answer : (a : Wrote) {n : ℕ} (o₂ : List ℕ) → n ≡ length es - 1
+      → ((b : Bin) (before : List ℕ) (ys : List (Expr Span)) (z : Expr Span) → 8 ≡ binKind b → Forest o₁ (s .rows) before ys z → length ys ≡ n → ClosedAnswer a s b ys z o₁ o₂)
+      → Answer a p (nest es) o o₂ t t₁
+  nested-answer a o₂ c k = nested a o₂ (k Seq before xs r refl forest (count c))

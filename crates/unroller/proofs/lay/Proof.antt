@@ -17,7 +17,7 @@ finish-requires : tie.Need-finish-requires
 finish-requires c κs = let s = c .before .before .before .before .before in lay-finish (s .pre) _ _ (c .before .before .first-of .ensures (s .pre .tree))
 
 repeat-requires : tie.Need-repeat-requires
-repeat-requires c κs = 
+repeat-requires c κs =
     let s = c .before .before .before .before .before .before .before .before .before .before in
     let f = c .before .before .before .before .before .before .before .first-of in
     let e = s .pre .tree in
@@ -28,7 +28,7 @@ repeat-requires c κs =
     pending-repeat (replicate (m .plain) e) (bs ++ cs) h (m .plain) Once refl
 
 repeat-requires-2 : tie.Need-repeat-requires-2
-repeat-requires-2 c κs = 
+repeat-requires-2 c κs =
     let s = c .before .before .before .before .before .before .before .before .before .before .before .before .before .before .before .before .before in
     let f = c .before .before .before .before .before .before .before .before .before .before .before .before .before .before .first-of in
     let e = s .pre .tree in
@@ -40,7 +40,7 @@ repeat-requires-2 c κs =
     pending-repeat bs cs g (m .opts) Maybe refl
 
 repeat-requires-3 : tie.Need-repeat-requires-3
-repeat-requires-3 c κs = 
+repeat-requires-3 c κs =
     let s = c .before .before .before .before .before .before .before .before .before .before .before .before .before .before .before .before .before .before .before .before .before .before .before .before in
     let f = c .before .before .before .before .before .before .before .before .before .before .before .before .before .before .before .before .before .before .before .before .before .first-of in
     let e = s .pre .tree in
