@@ -6,3 +6,4 @@ pub mod Moves
 pub mod Agains
 pub mod Lays
 pub mod Spreads
+pub mod Nodes

@@ -90,7 +90,6 @@ pub record Countable (p q : Place) (h : Head) (o t : List ℕ) : Type 0 where
   pub tree : E
   pub source : Source p q tree o t
   pub areas : Areas o t
-  pub words : (h .1 < 2 ^ 32) × (h .2 < 2 ^ 32)
 
 -- the rows of an item behind the tree itself
 abbrev pub behindOf : Item → ℕ

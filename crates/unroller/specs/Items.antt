@@ -2,7 +2,7 @@
 use mathlib.Core.Path.{_≡_}
 use mathlib.Core.Bool.{Bool, true, false}
 use mathlib.Core.List.{List, _++_}
-use Prim.Native.Nat.{ℕ, _+_, _-_, _*_, _≤_, min}
+use Prim.Native.Nat.{ℕ, _+_, _-_, _*_, _≤_, _<_, min}
 use lib.ListN.{replicate}
 use lib.Dec.{eqb}
 use Rattle.grammar.specs.Tree.{Opt, Rep, Expr, E, un, anyNode}
@@ -18,6 +18,10 @@ pub record Counted (w : List ℕ) (i : ℕ) : Type 0 where
   pub tree : Expr Span
   pub at : At w i tree
   pub counts : anyNode zeroCount tree ≡ false
+
+-- a kind that is unrolled: RepOnce, RepExact, RepMin, RepMax, RepMinMax
+abbrev pub IsRepeat : ℕ → Type 0
+IsRepeat k = (11 < k) × (k < 17)
 
 -- e, e? or e*
 abbrev pub itemOf : Item → E → E

@@ -9,7 +9,7 @@ ghost use Rattle.grammar.specs.Text.{bytesAt};
 ghost use Rattle.writing.specs.Writes.{stored, RowPut, Written, Answer};
 ghost use Rattle.rows.specs.Rows.{Tells};
 ghost use Rattle.unroller.specs.declared.Item.the-variants.{Once};
-ghost use Rattle.unroller.specs.Items.{itemOf, itemsOf, countOf, itemsFor, Holds};
+ghost use Rattle.unroller.specs.Items.{itemOf, itemsOf, countOf, itemsFor, IsRepeat, Holds};
 ghost use Rattle.unroller.specs.Copies.{movedRow, moved, Movable, Source, Copyable, Repeatable, Finishable, Layable, Spreadable, Countable, Laid};
 use rows::Lookup;
 use rows::Shape;
@@ -285,4 +285,35 @@ fn spread(out: &mut [u32], lits: &mut [u8], p: Place, q: Place, n: Items) -> Wro
     let s = lay(out, lits, p, q, n);
     let others = n.plain + (n.opts + n.reps) - 1;
     chains::close(out, s, 8, others)
+}
+
+// Whether a kind is unrolled.
+fn is_repeat(kind: u32) -> bool
+    ensures { λ r. ⌜ Tells r (IsRepeat kind) ⌝ }
+{
+    if kind < 12 {
+        return false;
+    }
+    kind < 17
+}
+
+// Writes the node of kind, x and y over the tree that stands from p to q, unrolled.
+fn node(
+    out: &mut [u32],
+    lits: &mut [u8],
+    p: Place,
+    q: Place,
+    kind: u32,
+    x: u32,
+    y: u32,
+) -> Wrote
+    requires { ⌜ Countable p q (kind, x, y) (now out) (now lits) ⌝ }
+    ensures { λ a. ⌜ ((u : Un) (e : E) → (kind, x, y) ≡ unHead u → Source p q e (now (out .entry)) (now (lits .entry)) → Answer a p (unrolled u e) (now (out .entry)) (now (out .exit)) (now (lits .entry)) (now (lits .exit))) ⌝ }
+{
+    if is_repeat(kind) {
+        let n = items_for(kind, x, y);
+        return spread(out, lits, p, q, n);
+    }
+    let size = q.rows - p.rows + 1;
+    writing::put_row(out, q, kind, x, y, size as u32)
 }
