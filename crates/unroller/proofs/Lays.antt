@@ -121,7 +121,7 @@ pub item-is : {i j : Item} {a p : Place} (e : E) {o o′ t t′ : List ℕ} → 
 item-is {a} {p} e {o} {o′} {t} {t′} h w = subst (λ (k : Item). Written a p (itemOf k e) o o′ t t′) (sym h) w
 
 pub finished : (u : Un) {a q p : Place} {e : E} {o o₁ o₂ t t₁ : List ℕ} → Written q p e o o₁ t t₁ → RowPut a q (unHead u) (q .rows - p .rows + 1) o₁ o₂ → Written a p (un u e) o o₂ t t₁
-finished u {a} {q} {p} {e} {o₂} w r = un-tree w (Done a) u (q .rows - p .rows + 1) o₂ (omega (arith, w .rows)) r
+finished u {a} {q} {p} {e} {o₂} w r = un-tree w (Done a) u (unHead u) (q .rows - p .rows + 1) o₂ refl (omega (arith, w .rows)) r
 
 -- ---- one after another
 

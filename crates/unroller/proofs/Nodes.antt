@@ -17,6 +17,7 @@ use Rattle.writing.specs.declared.Place.{Place}
 use Rattle.writing.specs.declared.Wrote.{Wrote}
 use Rattle.writing.specs.Writes.{RowAnswer, Answer}
 use Rattle.writing.proofs.Trees.{un-tree}
+use Rattle.unroller.specs.declared.Items.{Items}
 use Rattle.unroller.specs.Items.{itemsOf, itemsFor, IsRepeat}
 use Rattle.unroller.specs.Copies.{Source, Spreadable, Countable}
 use Rattle.unroller.proofs.Repeats.{Unrolls, unrolls}
@@ -47,21 +48,21 @@ module _ {p q : Place} (k x y : ℕ) {o t : List ℕ} (c : Countable p q (k, x, 
   same-op : (u : Un) → (k, x, y) ≡ unHead u → c .op ≡ u
   same-op u h = un-same (c .op) u (sym (c .is) ∙ h)
 
-  module _ (r : IsRepeat k) (lx : x < 2 ^ 32) (ly : y < 2 ^ 32) where
-    items-are : Unrolls (itemsFor k x y) (c .op)
+  module _ (r : IsRepeat k) (lx : x < 2 ^ 32) (ly : y < 2 ^ 32) {n : Items} (en : n ≡ itemsFor k x y) where
+    items-are : Unrolls n (c .op)
     items-are =
         let ek : k ≡ unHead (c .op) .0 = ap (λ (h : Head). h .0) (c .is) in
         let ex : x ≡ unHead (c .op) .1 = ap (λ (h : Head). h .1) (c .is) in
         let ey : y ≡ unHead (c .op) .2 = ap (λ (h : Head). h .2) (c .is) in
-        rw (ek, ex, ey) (unrolls (c .op) (omega (arith, r .0)) (omega (arith, r .1)) (omega arith) (omega arith) (c .counts))
+        rw (en, ek, ex, ey) (unrolls (c .op) (omega (arith, r .0)) (omega (arith, r .1)) (omega arith) (omega arith) (c .counts))
 
-    pub node-spread : Spreadable p q (itemsFor k x y) o t
+    pub node-spread : Spreadable p q n o t
     node-spread = record { tree = c .tree; source = c .source; least = items-are .least; most = items-are .most; areas = c .areas }
 
-    pub node-items : (a : Wrote) (u : Un) (e : E) (o′ t′ : List ℕ) → (k, x, y) ≡ unHead u → Answer a p (nest (itemsOf (itemsFor k x y) e)) o o′ t t′ → Answer a p (unrolled u e) o o′ t t′
+    pub node-items : (a : Wrote) (u : Un) (e : E) (o′ t′ : List ℕ) → (k, x, y) ≡ unHead u → Answer a p (nest (itemsOf n e)) o o′ t t′ → Answer a p (unrolled u e) o o′ t t′
     node-items a u e o′ t′ h w = subst (λ (z : E). Answer a p z o o′ t t′) (sym (items-are .is e) ∙ ap (λ (z : Un). unrolled z e) (same-op u h)) w
 
   pub node-row : (a : Wrote) (u : Un) {e : E} (o′ : List ℕ) → (IsRepeat k → ⊥) → (k, x, y) ≡ unHead u → Source p q e o t → RowAnswer a q (k, x, y) (q .rows - p .rows + 1) o o′ → Answer a p (unrolled u e) o o′ t t
   node-row a u {e} o′ n h s w =
       let ek : k ≡ unHead u .0 = ap (λ (h : Head). h .0) h in
-      rw (not-repeat u e (rw ek at n)) (un-tree (source-written s) a u (q .rows - p .rows + 1) o′ (omega (arith, s .rows)) (rw h at w))
+      rw (not-repeat u e (rw ek at n)) (un-tree (source-written s) a u (k, x, y) (q .rows - p .rows + 1) o′ h (omega (arith, s .rows)) w)

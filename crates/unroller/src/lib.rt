@@ -298,15 +298,7 @@ fn is_repeat(kind: u32) -> bool
 }
 
 // Writes the node of kind, x and y over the tree that stands from p to q, unrolled.
-fn node(
-    out: &mut [u32],
-    lits: &mut [u8],
-    p: Place,
-    q: Place,
-    kind: u32,
-    x: u32,
-    y: u32,
-) -> Wrote
+fn node(out: &mut [u32], lits: &mut [u8], p: Place, q: Place, kind: u32, x: u32, y: u32) -> Wrote
     requires { ⌜ Countable p q (kind, x, y) (now out) (now lits) ⌝ }
     ensures { λ a. ⌜ ((u : Un) (e : E) → (kind, x, y) ≡ unHead u → Source p q e (now (out .entry)) (now (lits .entry)) → Answer a p (unrolled u e) (now (out .entry)) (now (out .exit)) (now (lits .entry)) (now (lits .exit))) ⌝ }
 {
