@@ -15,25 +15,39 @@ use Rattle.rows.specs.Rows.{Tells}
 use Rattle.unroller.specs.declared.Items.{Items}
 use Rattle.unroller.specs.Items.{itemsOf, items, itemsFor, countOf, Holds}
 
--- n are the items of the repeat u: at least one, and one more at most than a word counts
+-- n are the items of the repeat u, and there is one
 pub record Unrolls (n : Items) (u : Un) : Type 0 where
   pub is : (e : E) → unrolled u e ≡ nest (itemsOf n e)
   pub least : 1 ≤ countOf n
-  pub most : countOf n ≤ 2 ^ 32
 
-pub unrolls : (u : Un) → 11 < unHead u .0 → unHead u .0 < 17 → unHead u .1 < 2 ^ 32 → unHead u .2 < 2 ^ 32 → zeroUn u ≡ false → Unrolls (itemsFor (unHead u .0) (unHead u .1) (unHead u .2)) u
+pub unrolls : (u : Un) → 11 < unHead u .0 → unHead u .0 < 17 → zeroUn u ≡ false → Unrolls (itemsFor (unHead u .0) (unHead u .1) (unHead u .2)) u
 unfolding itemsFor
-unrolls PosPred k l a b z = absurd (omega arith)
-unrolls NegPred k l a b z = absurd (omega arith)
-unrolls Opt k l a b z = absurd (omega arith)
-unrolls Rep k l a b z = absurd (omega arith)
-unrolls RepOnce k l a b z = record { is = λ e. refl; least = omega arith; most = omega arith }
-unrolls Push k l a b z = absurd (omega arith)
-unrolls RestoreOnErr k l a b z = absurd (omega arith)
-unrolls (RepExact n) k l a b z = record { is = λ e. ap nest (sym (append-nil (replicate n e))); least = omega (arith, eqb-false n 0 z); most = omega arith }
-unrolls (RepMin n) k l a b z = record { is = λ e. refl; least = omega arith; most = omega arith }
-unrolls (RepMax n) k l a b z = record { is = λ e. ap nest (sym (append-nil (replicate n (un Opt e)))); least = omega (arith, eqb-false n 0 z); most = omega arith }
-unrolls (RepMinMax m n) k l a b z = record { is = λ e. ap (λ (l : List E). nest (replicate (min m n) e ++ l)) (sym (append-nil (replicate (n - m) (un Opt e)))); least = omega (arith, eqb-false n 0 z); most = omega arith }
+unrolls PosPred k l z = absurd (omega arith)
+unrolls NegPred k l z = absurd (omega arith)
+unrolls Opt k l z = absurd (omega arith)
+unrolls Rep k l z = absurd (omega arith)
+unrolls RepOnce k l z = record { is = λ e. refl; least = omega arith }
+unrolls Push k l z = absurd (omega arith)
+unrolls RestoreOnErr k l z = absurd (omega arith)
+unrolls (RepExact n) k l z = record { is = λ e. ap nest (sym (append-nil (replicate n e))); least = omega (arith, eqb-false n 0 z) }
+unrolls (RepMin n) k l z = record { is = λ e. refl; least = omega arith }
+unrolls (RepMax n) k l z = record { is = λ e. ap nest (sym (append-nil (replicate n (un Opt e)))); least = omega (arith, eqb-false n 0 z) }
+unrolls (RepMinMax m n) k l z = record { is = λ e. ap (λ (l : List E). nest (replicate (min m n) e ++ l)) (sym (append-nil (replicate (n - m) (un Opt e)))); least = omega (arith, eqb-false n 0 z) }
+
+-- there are no more than a word counts, and one
+pub items-most : (u : Un) → 11 < unHead u .0 → unHead u .0 < 17 → unHead u .1 < 2 ^ 32 → unHead u .2 < 2 ^ 32 → countOf (itemsFor (unHead u .0) (unHead u .1) (unHead u .2)) ≤ 2 ^ 32
+unfolding itemsFor
+items-most PosPred k l a b = absurd (omega arith)
+items-most NegPred k l a b = absurd (omega arith)
+items-most Opt k l a b = absurd (omega arith)
+items-most Rep k l a b = absurd (omega arith)
+items-most RepOnce k l a b = omega arith
+items-most Push k l a b = absurd (omega arith)
+items-most RestoreOnErr k l a b = absurd (omega arith)
+items-most (RepExact n) k l a b = omega arith
+items-most (RepMin n) k l a b = omega arith
+items-most (RepMax n) k l a b = omega arith
+items-most (RepMinMax m n) k l a b = omega arith
 
 -- ---- the first item
 

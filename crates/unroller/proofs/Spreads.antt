@@ -123,11 +123,11 @@ pub bytes-texts : (es : List E) → bytesOf es ≡ length (texts es)
 bytes-texts [] = refl
 bytes-texts (e ∷ es) = simp length-append (omega (arith, bytes-texts es))
 
-nest-weigh : (es : List E) → 1 ≤ length es → size (nest es) + 1 ≡ weigh es
+pub nest-weigh : (es : List E) → 1 ≤ length es → size (nest es) + 1 ≡ weigh es
 nest-weigh [] h = absurd (omega arith)
 nest-weigh (e ∷ es) h = nest-size e es
 
-nest-weighs : (es : List E) → 1 ≤ length es → length (textOf (nest es)) ≡ bytesOf es
+pub nest-weighs : (es : List E) → 1 ≤ length es → length (textOf (nest es)) ≡ bytesOf es
 nest-weighs [] h = absurd (omega arith)
 nest-weighs (e ∷ es) h = nest-bytes e es
 

@@ -3,13 +3,14 @@ ghost use mathlib.Core.Path.{_≡_};
 ghost use mathlib.Core.List.{List, _∷_};
 ghost use Prim.Native.Nat.{ℕ, _+_, _-_, _*_, _/_, _^_, _≤_, _<_};
 ghost use lib.ListN.{length, replicate};
-ghost use Rattle.grammar.specs.Tree.{Un, unHead, E};
-ghost use Rattle.grammar.specs.Steps.{nest, unrolled};
-ghost use Rattle.grammar.specs.Text.{bytesAt};
-ghost use Rattle.writing.specs.Writes.{stored, RowPut, Written, Answer};
-ghost use Rattle.rows.specs.Rows.{Tells};
+ghost use Rattle.grammar.specs.Tree.{Un, unHead, Expr, E};
+ghost use Rattle.grammar.specs.Rows.{Span};
+ghost use Rattle.grammar.specs.Steps.{nest, unrolled, unroll};
+ghost use Rattle.grammar.specs.Text.{bytesAt, resolve};
+ghost use Rattle.writing.specs.Writes.{stored, Room, RowPut, Written, Answer};
+ghost use Rattle.rows.specs.Rows.{Tells, Inside, At};
 ghost use Rattle.unroller.specs.declared.Item.the-variants.{Once};
-ghost use Rattle.unroller.specs.Items.{itemOf, itemsOf, countOf, itemsFor, IsRepeat, Holds};
+ghost use Rattle.unroller.specs.Items.{Counted, itemOf, itemsOf, countOf, itemsFor, IsRepeat, Holds};
 ghost use Rattle.unroller.specs.Copies.{movedRow, moved, Movable, Source, Copyable, Repeatable, Finishable, Layable, Spreadable, Countable, Laid};
 use rows::Lookup;
 use rows::Shape;
@@ -308,4 +309,60 @@ fn node(out: &mut [u32], lits: &mut [u8], p: Place, q: Place, kind: u32, x: u32,
     }
     let size = q.rows - p.rows + 1;
     writing::put_row(out, q, kind, x, y, size as u32)
+}
+
+// Writes the subtree of row `root`, unrolled, at p.
+pub fn unroll(
+    rows: &[u32],
+    text: &[u8],
+    root: usize,
+    out: &mut [u32],
+    lits: &mut [u8],
+    p: Place,
+) -> Wrote
+    requires { ⌜ Inside (now rows) (length (now text)) ⌝ }
+    requires { ⌜ Counted (now rows) root ⌝ }
+    requires { ⌜ Room p (now out) (now lits) ⌝ }
+    ensures { λ a. ⌜ ((r : Expr Span) → At (now (rows .entry)) root r → Answer a p (unroll (resolve (now (text .entry)) r)) (now (out .entry)) (now (out .exit)) (now (lits .entry)) (now (lits .exit))) ⌝ }
+{
+    let Lookup::Row {
+        kind,
+        x,
+        y,
+        size: _,
+    } = rows::row_at(rows, root)
+    else {
+        return Wrote::Full;
+    };
+    match rows::shape_of(kind) {
+        Shape::Lit => writing::put_lit(text, x as usize, y as usize, kind, out, lits, p),
+        Shape::Num => writing::put_row(out, p, kind, x, y, 1),
+        Shape::Skips => writing::copy(rows, text, root, out, lits, p),
+        Shape::One => {
+            let Wrote::Done(q) = unroll(rows, text, root - 1, out, lits, p) else {
+                return Wrote::Full;
+            };
+            node(out, lits, p, q, kind, x, y)
+        }
+        Shape::Two => {
+            let right = root - 1;
+            let Lookup::Row {
+                kind: _,
+                x: _,
+                y: _,
+                size: n,
+            } = rows::row_at(rows, right)
+            else {
+                return Wrote::Full;
+            };
+            let Wrote::Done(q) = unroll(rows, text, right - n as usize, out, lits, p) else {
+                return Wrote::Full;
+            };
+            let Wrote::Done(s) = unroll(rows, text, right, out, lits, q) else {
+                return Wrote::Full;
+            };
+            let size = s.rows - p.rows + 1;
+            writing::put_row(out, s, kind, x, y, size as u32)
+        }
+    }
 }
