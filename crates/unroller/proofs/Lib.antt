@@ -7,3 +7,4 @@ pub mod Agains
 pub mod Lays
 pub mod Spreads
 pub mod Nodes
+pub mod Walks
