@@ -3,7 +3,6 @@ use mathlib.Core.Path.{_≡_, refl, sym, ap, subst, _∙_}
 use mathlib.Core.List.{List, [], _∷_, _++_, append-nil}
 use Prim.Native.Nat.{ℕ, zero, suc, _+_, _-_, _*_, _/_, _≤_, _<_}
 use native.Mathlib.Nat.{add-zero, suc-mul, zero-mul, add-mul, one-mul, mul-le-mul-right}
-use native.Mathlib.Numerals.{add-one}
 use native.Mathlib.Omega.{arith}
 use lib.ListN.{length, take, drop, replicate, length-append, replicate-append-replicate}
 use lib.Seq.{length-take-le}
@@ -11,10 +10,10 @@ use Rattle.grammar.specs.Tree.{Un, unHead, E, un, size}
 use Rattle.grammar.specs.Rows.{flat}
 use Rattle.grammar.specs.Text.{bytesAt, textOf, packed}
 use Rattle.rows.specs.Rows.{At}
-use Rattle.rows.proofs.Laws.{root, at-un, size-pos, length-flat}
+use Rattle.rows.proofs.Laws.{root, at-un, size-pos}
 use Rattle.writing.specs.declared.Place.{Place}
 use Rattle.writing.specs.declared.Wrote.the-variants.{Done}
-use Rattle.writing.specs.Writes.{stored, Areas, Fit, Put, RowPut, Fits, Written}
+use Rattle.writing.specs.Writes.{Put, RowPut, Written}
 use Rattle.writing.proofs.Puts.{put-out, put-lits, put-then, put-none}
 use Rattle.writing.proofs.Trees.{size-packed, length-packed, written-put, written-out, written-lits, un-tree}
 use Rattle.chains.specs.Chains.{sizes, flats, texts, packs}

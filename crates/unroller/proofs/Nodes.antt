@@ -22,7 +22,7 @@ use Rattle.writing.specs.Writes.{RowAnswer, Fits, Written, Answer}
 use Rattle.writing.proofs.Trees.{un-tree, length-packed, written-out, written-lits}
 use Rattle.unroller.specs.declared.Items.{Items}
 use Rattle.unroller.specs.Items.{itemsOf, itemsFor, countOf, IsRepeat}
-use Rattle.unroller.specs.Copies.{Source, Spreadable, Countable}
+use Rattle.unroller.specs.Copies.{Source, Spreadable, Headed}
 use Rattle.unroller.proofs.Repeats.{Unrolls, unrolls, items-most}
 use Rattle.unroller.proofs.Lays.{source-written}
 use Rattle.unroller.proofs.Stores.{stored-over}
@@ -49,7 +49,7 @@ not-repeat (RepMin m) e n = absurd (n (omega arith, omega arith))
 not-repeat (RepMax m) e n = absurd (n (omega arith, omega arith))
 not-repeat (RepMinMax m k) e n = absurd (n (omega arith, omega arith))
 
-module _ {p q : Place} (k x y : ℕ) {o t : List ℕ} (c : Countable p q (k, x, y) o t) where
+module _ {p q : Place} (k x y : ℕ) {o t : List ℕ} (c : Headed p q (k, x, y) o t) where
   same-op : (u : Un) → (k, x, y) ≡ unHead u → c .op ≡ u
   same-op u h = un-same (c .op) u (sym (c .is) ∙ h)
 

@@ -1,13 +1,13 @@
 -- A repeat unrolled is its items nested. Assumes nothing.
-use mathlib.Core.Path.{_≡_, refl, sym, ap, subst, _∙_}
+use mathlib.Core.Path.{_≡_, refl, sym, ap}
 use mathlib.Core.Bool.{Bool, true, false}
-use mathlib.Core.List.{List, [], _∷_, _++_, append-nil}
+use mathlib.Core.List.{List, _∷_, _++_, append-nil}
 use Prim.Native.Nat.{ℕ, zero, suc, _+_, _-_, _*_, _^_, _≤_, _<_, min}
 use native.Mathlib.Omega.{arith}
 use native.Mathlib.Nat.{mul-le-mul-left, mul-le-mul-right, add-mul}
 use borrow.Author.Tests.{eqb-false, leb-true, leb-false}
 use lib.ListN.{replicate}
-use lib.Dec.{eqb, leb}
+use lib.Dec.{leb}
 use Rattle.grammar.specs.Tree.{Un, PosPred, NegPred, Opt, Rep, RepOnce, Push, RestoreOnErr, RepExact, RepMin, RepMax, RepMinMax, E, un, unHead}
 use Rattle.grammar.specs.Steps.{nest, unrolled}
 use Rattle.grammar.specs.Refusals.{zeroUn}
@@ -55,15 +55,15 @@ replicate-pred : {A : Type 0} (k : ℕ) (x : A) → 0 < k → replicate k x ≡ 
 replicate-pred zero x h = absurd (omega arith)
 replicate-pred (suc k) x h = let e : suc k - 1 ≡ k = omega arith in rw e
 
-module _ (n : Items) (e : E) where
-  pub first-plain : 0 < n .plain → itemsOf n e ≡ e ∷ itemsOf (items (n .plain - 1) (n .opts) (n .reps)) e
-  first-plain h = rw (replicate-pred (n .plain) e h)
+module _ (n : Items) (e : E) {m : Items} where
+  pub first-plain : 0 < n .plain → m ≡ items (n .plain - 1) (n .opts) (n .reps) → itemsOf n e ≡ e ∷ itemsOf m e
+  first-plain h q = rw (q, replicate-pred (n .plain) e h)
 
-  pub first-opt : n .plain ≡ 0 → 0 < n .opts → itemsOf n e ≡ un Opt e ∷ itemsOf (items (n .plain) (n .opts - 1) (n .reps)) e
-  first-opt p h = rw (p, replicate-pred (n .opts) (un Opt e) h)
+  pub first-opt : n .plain ≡ 0 → 0 < n .opts → m ≡ items 0 (n .opts - 1) (n .reps) → itemsOf n e ≡ un Opt e ∷ itemsOf m e
+  first-opt p h q = rw (q, p, replicate-pred (n .opts) (un Opt e) h)
 
-  pub first-rep : n .plain ≡ 0 → n .opts ≡ 0 → 0 < n .reps → itemsOf n e ≡ un Rep e ∷ itemsOf (items (n .plain) (n .opts) (n .reps - 1)) e
-  first-rep p q h = rw (p, q, replicate-pred (n .reps) (un Rep e) h)
+  pub first-rep : n .plain ≡ 0 → n .opts ≡ 0 → 0 < n .reps → m ≡ items 0 0 (n .reps - 1) → itemsOf n e ≡ un Rep e ∷ itemsOf m e
+  first-rep p o h q = rw (q, p, o, replicate-pred (n .reps) (un Rep e) h)
 
 -- ---- the size test
 

@@ -1,10 +1,10 @@
 -- How many rows and bytes nested items have, as whole numbers and without the tree. Assumes nothing.
-use mathlib.Core.Path.{_≡_, refl, sym, ap, _∙_}
-use mathlib.Core.List.{List, [], _∷_, _++_, append-nil}
+use mathlib.Core.Path.{_≡_, sym}
+use mathlib.Core.List.{List, [], _∷_, _++_}
 use Prim.Native.Nat.{ℕ, zero, suc, _+_, _*_}
 use native.Mathlib.Nat.{suc-mul, zero-mul}
 use native.Mathlib.Omega.{arith}
-use lib.ListN.{length, replicate, length-append, length-replicate}
+use lib.ListN.{length, replicate, length-append}
 use Rattle.grammar.specs.Tree.{E, size}
 use Rattle.grammar.specs.Text.{textOf}
 use Rattle.grammar.specs.Steps.{nest}

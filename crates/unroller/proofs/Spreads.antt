@@ -1,7 +1,7 @@
 -- The items of a repeat: laid one after another, then nested; and whether they fit. Assumes nothing.
-use mathlib.Core.Path.{_≡_, refl, sym, ap, subst, _∙_}
+use mathlib.Core.Path.{_≡_, refl, sym, ap, _∙_}
 use mathlib.Core.List.{List, [], _∷_, _++_, append-nil}
-use Prim.Native.Nat.{ℕ, zero, suc, _+_, _-_, _*_, _/_, _^_, _≤_, _<_}
+use Prim.Native.Nat.{ℕ, _+_, _-_, _*_, _/_, _^_, _≤_, _<_}
 use native.Mathlib.Nat.{add-mul}
 use native.Mathlib.Omega.{arith}
 use lib.ListN.{length, take, replicate, length-append, length-replicate}
@@ -12,19 +12,18 @@ use Rattle.grammar.specs.Steps.{nest}
 use Rattle.writing.specs.declared.Place.{Place}
 use Rattle.writing.specs.declared.Wrote.{Wrote}
 use Rattle.writing.specs.declared.Wrote.the-variants.{Done, Full}
-use Rattle.writing.specs.Writes.{stored, Areas, Fit, Put, Fits, Written, Answer}
+use Rattle.writing.specs.Writes.{stored, Areas, Fit, Fits, Written, Answer}
 use Rattle.writing.proofs.Puts.{put-out, put-lits}
 use Rattle.writing.proofs.Trees.{size-packed, written-out}
-use Rattle.chains.specs.Chains.{chain, sizes, flats, texts, packs, Forest, Closable, ClosedAnswer, Closed}
-use Rattle.chains.proofs.Trees.{nest-chain, packed-chain, text-chain, size-chain, sizes-append, flats-append, texts-append, packs-append, sizes-packs, length-packs}
+use Rattle.chains.specs.Chains.{chain, sizes, flats, texts, packs, Forest, Closable, ClosedAnswer}
+use Rattle.chains.proofs.Trees.{nest-chain, packed-chain, text-chain, sizes-append, flats-append, texts-append, packs-append, sizes-packs, length-packs}
 use Rattle.chains.proofs.Closes.{forest-stored, chain-stored}
 use Rattle.unroller.specs.declared.Item.{Item}
-use Rattle.unroller.specs.declared.Item.the-variants.{Once, Maybe, Many}
 use Rattle.unroller.specs.declared.Items.{Items}
 use Rattle.unroller.specs.Items.{itemOf, itemsOf, countOf, Holds}
-use Rattle.unroller.specs.Copies.{Source, Repeatable, Layable, Spreadable, Finishable, Laid, behindOf}
+use Rattle.unroller.specs.Copies.{Source, Repeatable, Layable, Finishable, Laid}
 use Rattle.unroller.proofs.Sizes.{weigh, nest-size, weigh-append, weigh-replicate, bytesOf, nest-bytes, bytes-append, bytes-replicate}
-use Rattle.unroller.proofs.Lays.{source-rows, written-source, source-written, source-put, item-size, item-text, item-source, laid-append, written-laid, sizes-replicate, texts-replicate}
+use Rattle.unroller.proofs.Lays.{source-rows, written-source, source-put, item-size, item-text, item-source, sizes-replicate, texts-replicate}
 
 -- ---- laying
 

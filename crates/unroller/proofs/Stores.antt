@@ -1,10 +1,10 @@
 -- What a run of stores leaves in an area: itself, and what is before it. Assumes nothing.
-use mathlib.Core.Path.{_≡_, refl, sym, ap, subst, _∙_}
+use mathlib.Core.Path.{_≡_, refl, sym, ap, _∙_}
 use mathlib.Core.List.{List, [], _∷_, _++_, append-assoc}
 use Prim.Native.Nat.{ℕ, zero, suc, _+_, _-_, _*_, _≤_, _<_}
 use native.Mathlib.Omega.{arith}
-use lib.ListN.{length, getD, take, drop, set, take-append-drop, length-append, length-take, length-drop}
-use lib.Seq.{sets, sets-eq, take-set-le, drop-set-lt, take-at, drop-at, drop-append-le, take-take, getD-take, drop-drop, length-take-le, take-append-seam}
+use lib.ListN.{length, getD, take, drop, set, take-append-drop, length-append}
+use lib.Seq.{sets-eq, take-set-le, drop-set-lt, take-at, drop-at, take-take, getD-take, drop-drop, length-take-le}
 use Rattle.grammar.specs.Tree.{Expr, size}
 use Rattle.grammar.specs.Rows.{Span, flat}
 use Rattle.grammar.specs.Text.{bytesAt}

@@ -1,12 +1,12 @@
 -- A subtree that was read is unrolled by what its parts' walks answer. Assumes nothing.
-use mathlib.Core.Path.{_≡_, refl, sym, ap, subst, _∙_}
+use mathlib.Core.Path.{_≡_, refl, sym, subst}
 use mathlib.Core.Bool.{Bool, true, false, _||_, false≢true}
 use mathlib.Core.List.{List}
-use Prim.Native.Nat.{ℕ, _+_, _-_, _*_, _/_, _≤_, _<_}
+use Prim.Native.Nat.{ℕ, _+_, _-_, _/_, _≤_}
 use native.Mathlib.Omega.{arith}
 use lib.ListN.{length}
 use Rattle.grammar.specs.Basic.{Bytes}
-use Rattle.grammar.specs.Tree.{Un, unHead, Expr, E, lit, fixed, skip, un, bin, binKind, size, anyNode}
+use Rattle.grammar.specs.Tree.{Un, unHead, Expr, E, bin, size, anyNode}
 use Rattle.grammar.specs.Rows.{Span}
 use Rattle.grammar.specs.Text.{bytesAt, resolve}
 use Rattle.grammar.specs.Steps.{unroll, unrolled}
@@ -19,7 +19,7 @@ use Rattle.writing.specs.declared.Wrote.the-variants.{Done, Full}
 use Rattle.writing.specs.Writes.{Areas, Room, RowAnswer, LitAnswer, Fits, Written, Answer}
 use Rattle.writing.proofs.Trees.{done-written, full-not, written-out, written-lits, written-room, lit-tree, fixed-tree, bin-tree, fits-left, fits-right}
 use Rattle.unroller.specs.Items.{Counted}
-use Rattle.unroller.specs.Copies.{Source, Countable}
+use Rattle.unroller.specs.Copies.{Source, Headed}
 use Rattle.unroller.proofs.Lays.{written-source}
 use Rattle.unroller.proofs.Nodes.{unrolled-larger, answer-over, fits-larger}
 
@@ -71,8 +71,8 @@ module _ (t w : List ℕ) {i k x y n : ℕ} {r : Expr Span} (v : OneView w i k x
     done : {q : Place} → h ≡ Done q → Written q p inner o o₁ b b₁
     done d = done-written p inner o o₁ b b₁ d (c (v .child) (v .at))
 
-    pub one-countable : {q : Place} → h ≡ Done q → Areas o b → Countable p q (k, x, y) o₁ b₁
-    one-countable d a =
+    pub one-headed : {q : Place} → h ≡ Done q → Areas o b → Headed p q (k, x, y) o₁ b₁
+    one-headed d a =
         let u = done d in
         record {
           op = v .op;

@@ -1,12 +1,11 @@
 -- Copies of a tree that stands in the areas themselves, and trees laid one after another. Assumes nothing.
 use mathlib.Core.Path.{_≡_}
-use mathlib.Core.List.{List, [], _∷_, _++_}
+use mathlib.Core.List.{List, [], _++_}
 use Prim.Native.Nat.{ℕ, zero, suc, _+_, _-_, _*_, _/_, _^_, _≤_, _<_}
 use lib.ListN.{length}
-use Rattle.grammar.specs.Basic.{Bytes}
 use mathlib.Core.Bool.{false}
 use Rattle.grammar.specs.Tree.{Head, Un, E, unHead, size}
-use Rattle.grammar.specs.Rows.{row, flat}
+use Rattle.grammar.specs.Rows.{row}
 use Rattle.grammar.specs.Text.{bytesAt, textOf, packed}
 use Rattle.grammar.specs.Refusals.{zeroUn}
 use Rattle.rows.specs.declared.Shape.{Shape}
@@ -83,7 +82,7 @@ pub record Spreadable (p q : Place) (n : Items) (o t : List ℕ) : Type 0 where
   pub areas : Areas o t
 
 -- kind, x and y are those of a node with one child, whose count is not a zero that refusal 6 forbids, over the tree from p to q
-pub record Countable (p q : Place) (h : Head) (o t : List ℕ) : Type 0 where
+pub record Headed (p q : Place) (h : Head) (o t : List ℕ) : Type 0 where
   pub op : Un
   pub is : h ≡ unHead op
   pub counts : zeroUn op ≡ false

@@ -10,8 +10,8 @@ ghost use Rattle.grammar.specs.Text.{bytesAt, resolve};
 ghost use Rattle.writing.specs.Writes.{stored, Room, RowPut, Written, Answer};
 ghost use Rattle.rows.specs.Rows.{Tells, Inside, At};
 ghost use Rattle.unroller.specs.declared.Item.the-variants.{Once};
-ghost use Rattle.unroller.specs.Items.{Counted, itemOf, itemsOf, countOf, itemsFor, IsRepeat, Holds};
-ghost use Rattle.unroller.specs.Copies.{movedRow, moved, Movable, Source, Copyable, Repeatable, Finishable, Layable, Spreadable, Countable, Laid};
+ghost use Rattle.unroller.specs.Items.{Counted, itemOf, itemsOf, countOf, items, itemsFor, IsRepeat, Holds};
+ghost use Rattle.unroller.specs.Copies.{movedRow, moved, Movable, Source, Copyable, Repeatable, Finishable, Layable, Spreadable, Headed, Laid};
 use rows::Lookup;
 use rows::Shape;
 use writing::Place;
@@ -37,53 +37,35 @@ pub struct Split {
     pub rest: Items,
 }
 
+fn counts(plain: usize, opts: usize, reps: usize) -> Items
+    ensures { λ r. ⌜ r ≡ items plain opts reps ⌝ }
+{
+    Items { plain, opts, reps }
+}
+
 // How often a repeat has each item, by its row.
 fn items_for(kind: u32, x: u32, y: u32) -> Items
     ensures { λ r. ⌜ r ≡ itemsFor kind x y ⌝ }
 {
     if kind == 12 {
-        return Items {
-            plain: 1,
-            opts: 0,
-            reps: 1,
-        };
+        return counts(1, 0, 1);
     }
     let n = x as usize;
     if kind == 13 {
-        return Items {
-            plain: n,
-            opts: 0,
-            reps: 0,
-        };
+        return counts(n, 0, 0);
     }
     if kind == 14 {
-        return Items {
-            plain: n,
-            opts: 0,
-            reps: 1,
-        };
+        return counts(n, 0, 1);
     }
     if kind == 15 {
-        return Items {
-            plain: 0,
-            opts: n,
-            reps: 0,
-        };
+        return counts(0, n, 0);
     }
     let m = y as usize;
     if n < m {
-        Items {
-            plain: n,
-            opts: m - n,
-            reps: 0,
-        }
+        counts(n, m - n, 0)
     } else {
         // a minimum above the maximum counts as the maximum
-        Items {
-            plain: m,
-            opts: 0,
-            reps: 0,
-        }
+        counts(m, 0, 0)
     }
 }
 
@@ -96,32 +78,20 @@ fn first_of(n: Items) -> Split
     let opts = n.opts;
     let reps = n.reps;
     if 0 < plain {
-        let rest = Items {
-            plain: plain - 1,
-            opts,
-            reps,
-        };
+        let rest = counts(plain - 1, opts, reps);
         return Split {
             item: Item::Once,
             rest,
         };
     }
     if 0 < opts {
-        let rest = Items {
-            plain,
-            opts: opts - 1,
-            reps,
-        };
+        let rest = counts(0, opts - 1, reps);
         return Split {
             item: Item::Maybe,
             rest,
         };
     }
-    let rest = Items {
-        plain,
-        opts,
-        reps: reps - 1,
-    };
+    let rest = counts(0, 0, reps - 1);
     Split {
         item: Item::Many,
         rest,
@@ -300,7 +270,7 @@ fn is_repeat(kind: u32) -> bool
 
 // Writes the node of kind, x and y over the tree that stands from p to q, unrolled.
 fn node(out: &mut [u32], lits: &mut [u8], p: Place, q: Place, kind: u32, x: u32, y: u32) -> Wrote
-    requires { ⌜ Countable p q (kind, x, y) (now out) (now lits) ⌝ }
+    requires { ⌜ Headed p q (kind, x, y) (now out) (now lits) ⌝ }
     ensures { λ a. ⌜ ((u : Un) (e : E) → (kind, x, y) ≡ unHead u → Source p q e (now (out .entry)) (now (lits .entry)) → Answer a p (unrolled u e) (now (out .entry)) (now (out .exit)) (now (lits .entry)) (now (lits .exit))) ⌝ }
 {
     if is_repeat(kind) {

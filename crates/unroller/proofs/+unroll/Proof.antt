@@ -6,7 +6,7 @@ use Rattle.rows.specs.Rows.{shapeOf, sizeAt}
 use Rattle.rows.proofs.Laws.{Found, row-found, root, root-there, found-size}
 use Rattle.rows.proofs.Cells.{in-text}
 use Rattle.rows.proofs.Views.{OneView, TwoView, as-lit, as-num, as-one, as-two, as-skip, left-at}
-use Rattle.unroller.proofs.Walks.{counted-any, counted-stands, unrolled-lit, unrolled-num, unrolled-skip, one-counted, one-countable, one-full, one-node, left-counted, right-counted, two-full₁, two-full₂, two-room, two-size, two-node}
+use Rattle.unroller.proofs.Walks.{counted-any, counted-stands, unrolled-lit, unrolled-num, unrolled-skip, one-counted, one-headed, one-full, one-node, left-counted, right-counted, two-full₁, two-full₂, two-room, two-size, two-node}
 use borrow.Author.Needs.{needs}
 use Prim.Native.Nat.{ℕ, _<_}
 use borrow.Fn.Kinds.{In}
@@ -131,7 +131,7 @@ unroll-returns-2 : (t : ℕ) → unroll-lts.Need-returns-2 (calls-unroll t) (unr
 unroll-returns-2 t c = λ r a. one-full _ _ (as-one (read t (c .before .before .before .before .before .before .before .before .before .before .before .before)) a (is-one t (c .before .before .before .before .before .before .before .before .before))) (counted-any (c .before .before .before .before .before .before .before .before .before .before .before .before .before .before .before .before .before .before .before .before .pre .1 .1 .0) a) _ _ _ _ _ _ (c .before .before .before .before .before .before .unroll .ensures) (c .enum-told6 .given .1)
 
 unroll-node-requires : (t : ℕ) → unroll-lts.Need-node-requires (calls-unroll t) (unroll-at t) unroll.Post
-unroll-node-requires t c κs = let s = c .before .before .before .before .before .before .before .before .before .before .before .before .before .before .before .before .before .before .before .before .before .before .before in one-countable _ _ (one-view t (c .before .before .before .before .before .before .before .before .before .before .before .before)) (s .pre .1 .1 .0 .counts) _ _ _ _ _ _ (c .before .before .before .before .before .before .before .before .before .unroll .ensures) (c .before .before .before .q .given .1) (s .pre .1 .1 .1 .areas)
+unroll-node-requires t c κs = let s = c .before .before .before .before .before .before .before .before .before .before .before .before .before .before .before .before .before .before .before .before .before .before .before in one-headed _ _ (one-view t (c .before .before .before .before .before .before .before .before .before .before .before .before)) (s .pre .1 .1 .0 .counts) _ _ _ _ _ _ (c .before .before .before .before .before .before .before .before .before .unroll .ensures) (c .before .before .before .q .given .1) (s .pre .1 .1 .1 .areas)
 
 unroll-enum-told-7 : (t : ℕ) → unroll-lts.Need-enum-told-7 (calls-unroll t) (unroll-at t) unroll.Post
 unroll-enum-told-7 t c = search needs

@@ -1,6 +1,4 @@
-use mathlib.Core.Path.{_≡_, refl}
-use Prim.Native.Nat.{_+_, _≤_}
-use native.Mathlib.Omega.{arith}
+use mathlib.Core.Path.{refl}
 use Rattle.unroller.proofs.Agains.{again-movable, again-written}
 use borrow.Author.Needs.{needs}
 use Rattle.unroller.proofs.again.Statement.{statement}

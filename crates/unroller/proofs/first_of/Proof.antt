@@ -4,23 +4,43 @@ use borrow.Author.Needs.{needs}
 use Rattle.unroller.proofs.first_of.Statement.{statement}
 use Rattle.unroller.proofs.first_of.Tie as tie
 
-sub-t9 : tie.Need-sub-t9
-sub-t9 c = search needs
+sub-counts : tie.Need-sub-counts
+sub-counts c = search needs
+
+counts-requires : tie.Need-counts-requires
+counts-requires c κs = search needs
 
 returns : tie.Need-returns
-returns c = λ e. first-plain (c .before .args .n) e (c .if1 .taken)
+returns c = λ e. first-plain (c .before .before .args .n) e (c .before .if1 .taken) (c .counts .ensures)
 
-sub-t11 : tie.Need-sub-t11
-sub-t11 c = search needs
+sub-counts-2 : tie.Need-sub-counts-2
+sub-counts-2 c = search needs
+
+counts-requires-2 : tie.Need-counts-requires-2
+counts-requires-2 c κs = search needs
 
 returns-2 : tie.Need-returns-2
-returns-2 c = λ e. first-opt (c .before .before .args .n) e (omega arith) (c .if2 .taken)
+returns-2 c = λ e. first-opt (c .before .before .before .args .n) e (omega arith) (c .before .if2 .taken) (c .counts2 .ensures)
 
-sub-t13 : tie.Need-sub-t13
-sub-t13 c = search needs
+sub-counts-3 : tie.Need-sub-counts-3
+sub-counts-3 c = search needs
+
+counts-requires-3 : tie.Need-counts-requires-3
+counts-requires-3 c κs = search needs
 
 returns-3 : tie.Need-returns-3
-returns-3 c = λ e. first-rep (c .before .before .args .n) e (omega arith) (omega arith) (omega arith)
+returns-3 c = λ e. first-rep (c .before .before .before .args .n) e (omega arith) (omega arith) (omega arith) (c .counts3 .ensures)
 
 pub first-of-spec : {M : Type 1} → statement M
-first-of-spec = tie.close (tie.spec sub-t9 returns sub-t11 returns-2 sub-t13 returns-3)
+first-of-spec =
+    tie.close
+    (tie.spec
+    sub-counts
+    counts-requires
+    returns
+    sub-counts-2
+    counts-requires-2
+    returns-2
+    sub-counts-3
+    counts-requires-3
+    returns-3)

@@ -1,4 +1,4 @@
-use mathlib.Core.Path.{_≡_, refl, sym}
+use mathlib.Core.Path.{refl}
 use mathlib.Core.List.{[], _∷_, _++_, append-nil}
 use lib.ListN.{replicate}
 use Rattle.grammar.specs.Tree.{Opt, Rep, un}

@@ -1,4 +1,3 @@
-use Prim.Native.Nat.{_^_, _<_}
 use native.Mathlib.Omega.{arith}
 use Rattle.rows.proofs.Cells.{tells-yes, tells-no}
 use Rattle.unroller.proofs.Lays.{source-rows}
