@@ -1,12 +1,12 @@
 -- A subtree that was read is listed by what its children's calls answer. Assumes nothing.
 use mathlib.Core.Path.{_≡_, refl, sym, ap, subst, _∙_}
 use mathlib.Core.List.{List, _++_, append-assoc}
-use Prim.Native.Nat.{ℕ, _+_, _-_, _*_, _/_, _≤_, _<_}
+use Prim.Native.Nat.{ℕ, _-_, _*_, _/_, _≤_, _<_}
 use native.Mathlib.Omega.{arith}
-use lib.ListN.{length, take, length-append}
+use lib.ListN.{length, take}
 use lib.Seq.{length-take-le}
 use Rattle.grammar.specs.Basic.{Bytes}
-use Rattle.grammar.specs.Tree.{E, Expr, Un, Bin, lit, fixed, skip, un, bin, unHead, binKind, size}
+use Rattle.grammar.specs.Tree.{E, Expr, Bin, lit, fixed, skip, un, bin, binKind, size}
 use Rattle.grammar.specs.Rows.{Span, flat}
 use Rattle.grammar.specs.Text.{resolve, textOf, packed}
 use Rattle.grammar.specs.Steps.{list, list?, orSame}
@@ -21,7 +21,7 @@ use Rattle.writing.specs.declared.Wrote.{Wrote}
 use Rattle.writing.specs.declared.Wrote.the-variants.{Done, Full}
 use Rattle.writing.specs.Writes.{Fits, RowAnswer}
 use Rattle.writing.specs.Keeps.{Kept, KeptAnswer}
-use Rattle.writing.proofs.Keeps.{kept-done, kept-un, row-room, right-fits}
+use Rattle.writing.proofs.Keeps.{kept-un, row-room, right-fits}
 use Rattle.lister.specs.Mends.{Pair}
 use Rattle.lister.proofs.Lists.{list-un, list-bin, list-size, list-text}
 use Rattle.lister.proofs.Pairs.{front-of}

@@ -1,11 +1,11 @@
 use mathlib.Core.Path.{_≡_, refl, sym, ap, _∙_}
 use native.Mathlib.Omega.{arith}
-use Prim.Native.Nat.{_+_, _-_, _*_, _/_}
+use Prim.Native.Nat.{_+_, _-_, _*_, _/_, ℕ, _<_}
 use lib.ListN.{length}
-use Rattle.grammar.specs.Tree.{Expr, Un, Opt, Seq, Choice, un, bin, size}
+use Rattle.grammar.specs.Tree.{Expr, Opt, Seq, Choice, un, bin, size}
 use Rattle.grammar.specs.Rows.{Span}
 use Rattle.grammar.specs.Text.{resolve}
-use Rattle.rows.specs.declared.Shape.the-variants.{Lit, Num, One, Two, Skips}
+use Rattle.rows.specs.declared.Shape.the-variants.{One, Two}
 use Rattle.rows.specs.Rows.{At, sizeAt, shapeOf}
 use Rattle.rows.proofs.Laws.{Found, row-found, root, root-there, found-size}
 use Rattle.rows.proofs.Views.{OneView, TwoView, as-one, as-two}
@@ -19,7 +19,6 @@ use Rattle.factorizer.specs.Factors.{factored}
 use Rattle.factorizer.proofs.Factors.{choice-heads, choice-tail, choice-first, choice-plain}
 use Rattle.factorizer.proofs.Walks.{un-answer, bin-answer, leaf-is, one-is, two-are, other-is, choice-is, choice-view, left-at, told-heads, told-tail, told-first, told-plain, fits-choice, kept-order, un-room, right-fits, both-order, both-room, opt-factored, ready-both, fits-opt, fits-heads}
 use borrow.Author.Needs.{needs}
-use Prim.Native.Nat.{ℕ, _<_}
 use borrow.Fn.Kinds.{In}
 use borrow.Fn.PlainCycle.{Measures, is, falls, and}
 use Rattle.factorizer.proofs.at.Reads as at

@@ -1,22 +1,19 @@
 use Rattle.lister.proofs.Walks.{leaf-list, one-room, list-one, left-at, two-fits, two-pair, list-two}
-use mathlib.Core.Path.{_≡_, refl, sym, _∙_}
+use mathlib.Core.Path.{_≡_, sym, _∙_}
 use native.Mathlib.Omega.{arith}
-use Prim.Native.Nat.{_-_}
-use lib.ListN.{length}
+use Prim.Native.Nat.{_-_, ℕ, _<_}
 use Rattle.grammar.specs.Tree.{Expr, size}
 use Rattle.grammar.specs.Rows.{Span}
 use Rattle.grammar.specs.Text.{resolve}
 use Rattle.grammar.specs.Steps.{list as listed}
-use Rattle.rows.specs.declared.Shape.the-variants.{Lit, Num, One, Two, Skips}
+use Rattle.rows.specs.declared.Shape.the-variants.{One, Two}
 use Rattle.rows.specs.Rows.{At, sizeAt, shapeOf}
 use Rattle.rows.proofs.Laws.{Found, row-found, root, root-there, found-size}
 use Rattle.rows.proofs.Views.{OneView, TwoView, as-one, as-two}
-use Rattle.writing.specs.Writes.{Fits}
 use Rattle.writing.specs.Keeps.{Kept}
 use Rattle.writing.proofs.Trees.{fits-un, fits-left}
 use Rattle.writing.proofs.Keeps.{kept-done, kept-full, ready-fits}
 use borrow.Author.Needs.{needs}
-use Prim.Native.Nat.{ℕ, _<_}
 use borrow.Fn.Kinds.{In}
 use borrow.Fn.PlainCycle.{Measures, is, falls, and}
 use Rattle.lister.proofs.list.Reads as list
