@@ -10,7 +10,8 @@ use Rattle.grammar.specs.Rows.{Span}
 use Rattle.grammar.specs.Text.{resolve}
 use Rattle.rows.specs.Rows.{At, Inside, StandsIn, shapeOf}
 use Rattle.rows.proofs.Laws.{Found, found-size}
-use Rattle.rows.proofs.Views.{TwoView, as-two, two-is, inside-within}
+use Rattle.rows.proofs.Views.{TwoView, as-two, two-is}
+use Rattle.rows.proofs.Insides.{inside-within}
 use Rattle.rows.proofs.Cells.{bin-shape}
 use Rattle.factorizer.specs.declared.Sides.{Sides}
 use Rattle.factorizer.specs.declared.Sides.the-variants.{Split, Other}
