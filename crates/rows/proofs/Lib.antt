@@ -1,0 +1,1 @@
+-- Laws of rows, that step proofs use.

@@ -1,0 +1,3 @@
+-- What a step writes.
+pub mod Writes
+pub mod Keeps
