@@ -1,0 +1,2 @@
+-- Laws of skip lists.
+pub mod Memories

@@ -1,0 +1,2 @@
+-- What a reading of skip lists leaves in the marks.
+pub mod Memory
