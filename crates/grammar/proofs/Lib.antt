@@ -3,7 +3,9 @@ pub mod Logic
 pub mod Words
 pub mod Packing
 pub mod TopDown
+pub mod Sizes
 pub mod Readings
+pub mod Leaves
 pub mod Stacks
 pub mod Notation
 pub mod Examples
