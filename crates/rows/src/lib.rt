@@ -140,7 +140,7 @@ pub fn same_row(
         return false;
     }
     if let Shape::Lit = shape_of(k) {
-        same_bytes(text1, wide(x1), text2, wide(x2), wide(y1))
+        same_bytes(text1, x1 as usize, text2, x2 as usize, y1 as usize)
     } else {
         x1 == x2
     }
@@ -207,6 +207,6 @@ pub fn same_tree(
     if n != m {
         return false;
     }
-    let rows = wide(n);
+    let rows = n as usize;
     same_rows(rows1, text1, i + 1 - rows, rows2, text2, j + 1 - rows, rows)
 }

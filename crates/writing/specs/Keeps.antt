@@ -21,7 +21,7 @@ pub record Kept (q p : Place) (e : E) (o o′ t t′ : List ℕ) : Type 0 where
   pub bytes : take (q .text) t′ ≡ take (p .text) t ++ textOf e
 
 -- the answer of a step that cannot grow, called where the tree that it reads fits: never full
-abbrev pub KeptAnswer : Wrote → Place → E → List ℕ → List ℕ → List ℕ → List ℕ → Type 0
+abbrev pub KeptAnswer : Wrote → Place → E → (o o′ t t′ : List ℕ) → Type 0
 KeptAnswer (Done q) p e o o′ t t′ = Kept q p e o o′ t t′
 KeptAnswer Full p e o o′ t t′ = ⊥
 

@@ -1,3 +1,4 @@
--- What a step writes.
+-- What is written at a place.
 pub mod Writes
 pub mod Keeps
+pub mod Copies

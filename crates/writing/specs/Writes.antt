@@ -29,6 +29,49 @@ pub record Room (p : Place) (o t : List ℕ) : Type 0 where
   pub text : p .text ≤ length t
   pub areas : Areas o t
 
+-- n rows and m bytes fit at p
+pub record Fit (p : Place) (n m : ℕ) (o t : List ℕ) : Type 0 where
+  pub rows : p .rows + n ≤ length o / 4
+  pub text : p .text + m ≤ length t
+
+-- n rows of the words ws and the text bs stand from p on, and nothing else of the areas has changed; q is the place after them
+pub record Put (q p : Place) (n : ℕ) (ws bs o o′ t t′ : List ℕ) : Type 0 where
+  pub fits : Fit p n (length bs) o t
+  pub rows : q .rows ≡ p .rows + n
+  pub text : q .text ≡ p .text + length bs
+  pub words : o′ ≡ stored o (p .rows * 4) ws
+  pub bytes : t′ ≡ stored t (p .text) bs
+
+-- done where they fit, and full where they do not
+abbrev pub PutAnswer : Wrote → Place → ℕ → (ws bs o o′ t t′ : List ℕ) → Type 0
+PutAnswer (Done q) p n ws bs o o′ t t′ = Put q p n ws bs o o′ t t′
+PutAnswer Full p n ws bs o o′ t t′ = Fit p n (length bs) o t → ⊥
+
+-- one row, its head h and its size word n, that leaves the text as it is
+pub record RowPut (q p : Place) (h : Head) (n : ℕ) (o o′ : List ℕ) : Type 0 where
+  pub room : p .rows < length o / 4
+  pub rows : q .rows ≡ p .rows + 1
+  pub text : q .text ≡ p .text
+  pub words : o′ ≡ stored o (p .rows * 4) (row h n)
+
+abbrev pub RowAnswer : Wrote → Place → Head → ℕ → (o o′ : List ℕ) → Type 0
+RowAnswer (Done q) p h n o o′ = RowPut q p h n o o′
+RowAnswer Full p h n o o′ = p .rows < length o / 4 → ⊥
+
+-- a literal of kind k with the bytes s
+abbrev pub LitAnswer : Wrote → Place → ℕ → (s o o′ t t′ : List ℕ) → Type 0
+LitAnswer a p k s o o′ t t′ = PutAnswer a p 1 (row (k, p .text, length s) 1) s o o′ t t′
+
+-- the Str rows of the strings ss
+abbrev pub StrsAnswer : Wrote → Place → List Bytes → (o o′ t t′ : List ℕ) → Type 0
+StrsAnswer a p ss o o′ t t′ = PutAnswer a p (length ss) (strRows (spans (p .text) ss)) (joined ss) o o′ t t′
+
+-- k strings stand from row j on
+pub record StandStrs (w : List ℕ) (j k : ℕ) : Type 0 where
+  pub strings : List Span
+  pub at : AtStrs w j strings
+  pub count : length strings ≡ k
+
 -- the tree e fits at p
 pub record Fits (p : Place) (e : E) (o t : List ℕ) : Type 0 where
   pub rows : p .rows + size e ≤ length o / 4
@@ -43,52 +86,6 @@ pub record Written (q p : Place) (e : E) (o o′ t t′ : List ℕ) : Type 0 whe
   pub bytes : t′ ≡ stored t (p .text) (textOf e)
 
 -- the answer of a step that can grow: done where the tree fits, and full where it does not
-abbrev pub Answer : Wrote → Place → E → List ℕ → List ℕ → List ℕ → List ℕ → Type 0
+abbrev pub Answer : Wrote → Place → E → (o o′ t t′ : List ℕ) → Type 0
 Answer (Done q) p e o o′ t t′ = Written q p e o o′ t t′
 Answer Full p e o o′ t t′ = Fits p e o t → ⊥
-
--- one row: its head h and its size word n
-pub record RowWritten (q p : Place) (h : Head) (n : ℕ) (o o′ : List ℕ) : Type 0 where
-  pub room : p .rows < length o / 4
-  pub rows : q .rows ≡ p .rows + 1
-  pub text : q .text ≡ p .text
-  pub words : o′ ≡ stored o (p .rows * 4) (row h n)
-
-abbrev pub RowAnswer : Wrote → Place → Head → ℕ → List ℕ → List ℕ → Type 0
-RowAnswer (Done q) p h n o o′ = RowWritten q p h n o o′
-RowAnswer Full p h n o o′ = p .rows < length o / 4 → ⊥
-
--- a literal of kind k and its bytes s
-pub record LitWritten (q p : Place) (k : ℕ) (s o o′ t t′ : List ℕ) : Type 0 where
-  pub room : p .rows < length o / 4
-  pub fits : p .text + length s ≤ length t
-  pub rows : q .rows ≡ p .rows + 1
-  pub text : q .text ≡ p .text + length s
-  pub words : o′ ≡ stored o (p .rows * 4) (row (k, p .text, length s) 1)
-  pub bytes : t′ ≡ stored t (p .text) s
-
-abbrev pub LitAnswer : Wrote → Place → ℕ → List ℕ → List ℕ → List ℕ → List ℕ → List ℕ → Type 0
-LitAnswer (Done q) p k s o o′ t t′ = LitWritten q p k s o o′ t t′
-LitAnswer Full p k s o o′ t t′ = p .rows < length o / 4 → p .text + length s ≤ length t → ⊥
-
--- k strings stand from row j on
-pub record StandStrs (w : List ℕ) (j k : ℕ) : Type 0 where
-  pub strings : List Span
-  pub at : AtStrs w j strings
-  pub count : length strings ≡ k
-
--- the Str rows of the strings ss
-pub record StrsFit (p : Place) (ss : List Bytes) (o t : List ℕ) : Type 0 where
-  pub rows : p .rows + length ss ≤ length o / 4
-  pub text : p .text + length (joined ss) ≤ length t
-
-pub record StrsWritten (q p : Place) (ss : List Bytes) (o o′ t t′ : List ℕ) : Type 0 where
-  pub fits : StrsFit p ss o t
-  pub rows : q .rows ≡ p .rows + length ss
-  pub text : q .text ≡ p .text + length (joined ss)
-  pub words : o′ ≡ stored o (p .rows * 4) (strRows (spans (p .text) ss))
-  pub bytes : t′ ≡ stored t (p .text) (joined ss)
-
-abbrev pub StrsAnswer : Wrote → Place → List Bytes → List ℕ → List ℕ → List ℕ → List ℕ → Type 0
-StrsAnswer (Done q) p ss o o′ t t′ = StrsWritten q p ss o o′ t t′
-StrsAnswer Full p ss o o′ t t′ = StrsFit p ss o t → ⊥

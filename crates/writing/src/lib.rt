@@ -7,8 +7,9 @@ ghost use Rattle.grammar.specs.Tree.{Expr};
 ghost use Rattle.grammar.specs.Rows.{Span, row};
 ghost use Rattle.grammar.specs.Text.{bytesAt, resolve};
 ghost use Rattle.rows.specs.Rows.{Inside, At, AtStrs, Stands};
-ghost use Rattle.writing.specs.Writes.{stored, Areas, Room, Answer, RowAnswer, LitAnswer, StandStrs, StrsAnswer};
+ghost use Rattle.writing.specs.Writes.{stored, Areas, Room, PutAnswer, RowAnswer, LitAnswer, StandStrs, StrsAnswer, Answer};
 ghost use Rattle.writing.specs.Keeps.{KeptAnswer, Ready};
+ghost use Rattle.writing.specs.Copies.{rowText, rowWords, runText, runWords};
 use rows::Lookup;
 use rows::Shape;
 
@@ -90,6 +91,57 @@ pub fn put_lit(
     put_row(out, q, kind, at as u32, n as u32, 1)
 }
 
+// Writes row i of a table at p, its literal packed.
+fn copy_row(
+    rows: &[u32],
+    text: &[u8],
+    i: usize,
+    out: &mut [u32],
+    lits: &mut [u8],
+    p: Place,
+) -> Wrote
+    requires { ⌜ i < length (now rows) / 4 ⌝ }
+    requires { ⌜ Inside (now rows) (length (now text)) ⌝ }
+    requires { ⌜ Room p (now out) (now lits) ⌝ }
+    ensures { λ a. ⌜ PutAnswer a p 1 (rowWords (p .text) (now (text .entry)) (now (rows .entry)) i) (rowText (now (text .entry)) (now (rows .entry)) i) (now (out .entry)) (now (out .exit)) (now (lits .entry)) (now (lits .exit)) ⌝ }
+{
+    let Lookup::Row { kind, x, y, size } = rows::row_at(rows, i) else {
+        return Wrote::Full;
+    };
+    if let Shape::Lit = rows::shape_of(kind) {
+        put_lit(text, x as usize, y as usize, kind, out, lits, p)
+    } else {
+        put_row(out, p, kind, x, y, size)
+    }
+}
+
+// Writes n rows of a table from row i on at p, their literals packed.
+fn copy_rows(
+    rows: &[u32],
+    text: &[u8],
+    i: usize,
+    n: usize,
+    out: &mut [u32],
+    lits: &mut [u8],
+    p: Place,
+) -> Wrote
+    requires { ⌜ i + n ≤ length (now rows) / 4 ⌝ }
+    requires { ⌜ Inside (now rows) (length (now text)) ⌝ }
+    requires { ⌜ Room p (now out) (now lits) ⌝ }
+    ensures { λ a. ⌜ PutAnswer a p n (runWords (p .text) (now (text .entry)) (now (rows .entry)) i n) (runText (now (text .entry)) (now (rows .entry)) i n) (now (out .entry)) (now (out .exit)) (now (lits .entry)) (now (lits .exit)) ⌝ }
+{
+    let mut q = p;
+    let mut k = 0;
+    while k < n {
+        let Wrote::Done(s) = copy_row(rows, text, i + k, out, lits, q) else {
+            return Wrote::Full;
+        };
+        q = s;
+        k += 1;
+    }
+    Wrote::Done(q)
+}
+
 // Writes the k strings of a Skip that stand from row `first` on, their literals packed.
 pub fn copy_strs(
     rows: &[u32],
@@ -105,7 +157,7 @@ pub fn copy_strs(
     requires { ⌜ Room p (now out) (now lits) ⌝ }
     ensures { λ a. ⌜ ((ss : List Span) → AtStrs (now (rows .entry)) first ss → length ss ≡ k → StrsAnswer a p (map (bytesAt (now (text .entry))) ss) (now (out .entry)) (now (out .exit)) (now (lits .entry)) (now (lits .exit))) ⌝ }
 {
-    Wrote::Full
+    copy_rows(rows, text, first, k, out, lits, p)
 }
 
 // Writes the subtree of row `root` at p, its literals packed.
@@ -122,7 +174,17 @@ pub fn copy(
     requires { ⌜ Room p (now out) (now lits) ⌝ }
     ensures { λ a. ⌜ ((r : Expr Span) → At (now (rows .entry)) root r → Answer a p (resolve (now (text .entry)) r) (now (out .entry)) (now (out .exit)) (now (lits .entry)) (now (lits .exit))) ⌝ }
 {
-    Wrote::Full
+    let Lookup::Row {
+        kind: _,
+        x: _,
+        y: _,
+        size,
+    } = rows::row_at(rows, root)
+    else {
+        return Wrote::Full;
+    };
+    let n = size as usize;
+    copy_rows(rows, text, root + 1 - n, n, out, lits, p)
 }
 
 // Writes the subtree of row `root`, which fits, at p, its literals packed.
