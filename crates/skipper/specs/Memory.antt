@@ -36,8 +36,8 @@ abbrev pub Unfinished : Marks → List Bytes → Type 0
 Unfinished st o = (z : Bytes) → member z o ≡ true → st z < 2
 
 -- what the marks say is so, whichever unfinished rules are being read
-abbrev pub Known : Table Bytes → Marks → Type 0
-Known t st = (y : Bytes) (o : List Bytes) → 2 ≤ st y → Unfinished st o → markOf (nameList t o y) ≡ st y
+pub record Known (t : Table Bytes) (st : Marks) : Type 0 where
+  pub so : (y : Bytes) (o : List Bytes) → 2 ≤ st y → Unfinished st o → markOf (nameList t o y) ≡ st y
 
 -- o are the rules that are being read
 pub record Opened (st : Marks) (o : List Bytes) : Type 0 where
