@@ -312,9 +312,9 @@ module _ (ok : Kinds) where
   table-back (r ∷ rs) p =
       let n : length (flat (r .body)) ≡ 4 * size (r .body) = flat-length (r .body) in
       let a : readTree ok (take (4 * size (r .body)) (flat (r .body) ++ rowWords rs)) ≡ some (r .body) =
-          ap (readTree ok) (take-at (flat (r .body)) (rowWords rs) (4 * size (r .body)) n) ∙ tree-back ok (r .body) (p .1) in
+      ap (readTree ok) (take-at (flat (r .body)) (rowWords rs) (4 * size (r .body)) n) ∙ tree-back ok (r .body) (p .1) in
       let b : readTable ok (ruleWords rs) (drop (4 * size (r .body)) (flat (r .body) ++ rowWords rs)) ≡ some rs =
-          ap (readTable ok (ruleWords rs)) (drop-at (flat (r .body)) (rowWords rs) (4 * size (r .body)) n) ∙ table-back rs (p .2) in
+      ap (readTable ok (ruleWords rs)) (drop-at (flat (r .body)) (rowWords rs) (4 * size (r .body)) n) ∙ table-back rs (p .2) in
       ap₂ (withRule (r .name) (r .type) (size (r .body))) a b ∙ rule-back (p .0)
     where
       rule-back : leb (r .type) 4 ≡ true → withRule (r .name) (r .type) (size (r .body)) (some (r .body)) (some rs) ≡ some (r ∷ rs)
@@ -334,10 +334,11 @@ module _ (ok : Kinds) where
       let m : size e ≡ n = eqb-eq (size e) n (test-true (eqb (size e) n) u f₂) in
       let ih : TableOf ok rules (drop (4 * n) rows) t′ = table-is rules (drop (4 * n) rows) t′ f₃ in
       subst (TableOf ok (o ∷ l ∷ y ∷ n ∷ rules) rows) (some-eq _ _ g₃)
-      (record
-      { rules = ap₂ (λ (k : ℕ) (q : List ℕ). o ∷ l ∷ y ∷ k ∷ q) m (ih .rules)
-      ; rows = ap₂ _++_ (tree-is ok (take (4 * n) rows) e f₁) (ih .rows) ∙ take-append-drop (4 * n) rows
-      ; allowed = (test-true (leb y 4) v f₀, tree-allowed ok (take (4 * n) rows) e f₁, ih .allowed) })
+      (record {
+        rules = ap₂ (λ (k : ℕ) (q : List ℕ). o ∷ l ∷ y ∷ k ∷ q) m (ih .rules);
+        rows = ap₂ _++_ (tree-is ok (take (4 * n) rows) e f₁) (ih .rows) ∙ take-append-drop (4 * n) rows;
+        allowed = (test-true (leb y 4) v f₀, tree-allowed ok (take (4 * n) rows) e f₁, ih .allowed);
+      })
 
   -- REFUSAL 3 IS EXACT: words are read as a table exactly when they are that table's words
   pub table-iff : (rules rows : List ℕ) (t : Table Span) → (readTable ok rules rows ≡ some t) ↔ TableOf ok rules rows t
