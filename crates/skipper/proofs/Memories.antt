@@ -230,3 +230,63 @@ opens-opened {st} {st₁} {x} {o} s z p = record { all = λ w e. all w e (bytes-
     only : (w : Bytes) → member w (x ∷ o) ≡ true → Dec (w ≡ x) → st₁ w ≡ 1
     only w m (yes q) = ap st₁ q ∙ s .here
     only w m (no n) = s .others w n ∙ p .only w (member-other w x o n m)
+
+-- A RULE IS READ: its mark says that it is being read, its expression is read, and its mark says what came of it
+module _ {t : Table Bytes} {st st₁ st₂ st₃ : Marks} {x : Bytes} {e : E} {a : ℕ} (f : find t x ≡ some e) (z : st x ≡ 0) (k : Known t st) (s : Sets st st₁ x 1) (p : Known t st₁ → Reads t st₁ st₂ a (λ look. readIn look e)) (s₃ : Sets st₂ st₃ x a) where
+  abbrev body-read : Reads t st₁ st₂ a (λ look. readIn look e)
+  body-read = p (opens-known s z k)
+
+  not-opened : (o : List Bytes) → (st x ≡ 0) → Opened st o → (b : Bool) → member x o ≡ b → member x o ≡ false
+  not-opened o y w true m = absurd (omega (arith, w .only x m))
+  not-opened o y w false m = m
+
+  not-unfinished : 2 ≤ a → (o : List Bytes) → Unfinished st₃ o → (b : Bool) → member x o ≡ b → member x o ≡ false
+  not-unfinished h o u true m = absurd (omega (arith, u x m, s₃ .here))
+  not-unfinished h o u false m = m
+
+  still-open : 2 ≤ a → st₂ x ≡ 1
+  still-open h = body-read .grows h .still x (s .here)
+
+  unfinished-before : 2 ≤ a → (o : List Bytes) → Unfinished st₃ o → Unfinished st₂ (x ∷ o)
+  unfinished-before h o u w m = go (bytes-discrete w x)
+    where
+      go : Dec (w ≡ x) → st₂ w < 2
+      go (yes q) = omega (arith, ap st₂ q, still-open h)
+      go (no n) = omega (arith, s₃ .others w n, u w (member-other w x o n m))
+
+  unfinished-rest : 2 ≤ a → (o : List Bytes) → Unfinished st₃ o → Unfinished st₂ o
+  unfinished-rest h o u w m = unfinished-before h o u w (or-right (sameBytes w x) (member w o) m)
+
+  rule-known : 2 ≤ a → Known t st₃
+  rule-known h = record { so = λ y o l u. go y o l u (bytes-discrete y x) }
+    where
+      go : (y : Bytes) (o : List Bytes) → 2 ≤ st₃ y → Unfinished st₃ o → Dec (y ≡ x) → markOf (nameList t o y) ≡ st₃ y
+      go y o l u (no n) = body-read .known h .so y o (omega (arith, s₃ .others y n)) (unfinished-rest h o u) ∙ sym (s₃ .others y n)
+      go y o l u (yes q) =
+          ap (λ (v : Bytes). markOf (nameList t o v)) q
+          ∙ ap markOf (name-step t o x e f (not-unfinished h o u (member x o) refl))
+          ∙ settled-so (λ look. readIn look e) (x ∷ o) (in-mono e) (body-read .known h) (unfinished-before h o u) h (body-read .settled h)
+          ∙ sym (ap st₃ q ∙ s₃ .here)
+
+  rule-grows : 2 ≤ a → Grows st st₃
+  rule-grows h = record { done = λ w l. done w l (bytes-discrete w x); still = λ w q. still w q (bytes-discrete w x); same = λ w q. same w q (bytes-discrete w x) }
+    where
+      done : (w : Bytes) → 2 ≤ st w → Dec (w ≡ x) → st₃ w ≡ st w
+      done w l (yes q) = absurd (omega (arith, ap st q))
+      done w l (no n) = s₃ .others w n ∙ body-read .grows h .done w (omega (arith, s .others w n)) ∙ s .others w n
+      still : (w : Bytes) → st w ≡ 1 → Dec (w ≡ x) → st₃ w ≡ 1
+      still w q (yes v) = absurd (omega (arith, ap st v))
+      still w q (no n) = s₃ .others w n ∙ body-read .grows h .still w (s .others w n ∙ q)
+      same : (w : Bytes) → st₃ w ≡ 1 → Dec (w ≡ x) → st w ≡ 1
+      same w q (yes v) = absurd (omega (arith, ap st₃ v, s₃ .here))
+      same w q (no n) = sym (s .others w n) ∙ body-read .grows h .same w (sym (s₃ .others w n) ∙ q)
+
+  pub reads-rule : Reads t st st₃ a (λ look. look x)
+  reads-rule =
+      record {
+        range = body-read .range;
+        met = λ m o w. ap markOf (name-step t o x e f (not-opened o z w (member x o) refl)) ∙ body-read .met m (x ∷ o) (opens-opened s z w);
+        known = rule-known;
+        grows = rule-grows;
+        settled = λ h. ap (λ (v : ℕ). markOf (byMark v)) (s₃ .here) ∙ mark-by (readIn (byMarks st₂) e) a h (body-read .settled h);
+      }
