@@ -1,2 +1,3 @@
 -- Laws of skip lists.
 pub mod Memories
+pub mod Rules

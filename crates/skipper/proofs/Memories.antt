@@ -121,11 +121,6 @@ mark-by again s h e = absurd (omega arith)
 mark-by nothing s h e = rw (← e)
 mark-by (strings ss) s h e = rw (← e)
 
-mark-range : (p : Reading) → 1 ≤ markOf p
-mark-range again = omega arith
-mark-range nothing = omega arith
-mark-range (strings ss) = omega arith
-
 pub marks-below : {t : Table Bytes} {st : Marks} (o : List Bytes) → Known t st → Unfinished st o → (x : Bytes) → Below (byMarks st x) (nameList t o x)
 marks-below {t} {st} o k u x h = let e : markOf (byMark (st x)) ≡ st x = by-mark (st x) h in k .so x o (omega arith) u ∙ sym e
 
@@ -152,13 +147,12 @@ opened-grows p g = record { all = λ z e. p .all z (g .same z e); only = λ z m.
 
 -- a reading that looks at no name
 pub reads-plain : {t : Table Bytes} {st : Marks} (p : Reading) → Known t st → 2 ≤ markOf p → Reads t st st (markOf p) (λ _. p)
-reads-plain p k h = record { range = mark-range p; met = λ e o q. e; known = λ _. k; grows = λ _. grows-none; settled = λ _. refl }
+reads-plain p k h = record { met = λ e o q. e; known = λ _. k; grows = λ _. grows-none; settled = λ _. refl }
 
 -- a name with a mark
 pub reads-marked : {t : Table Bytes} {st : Marks} (x : Bytes) (e : E) → find t x ≡ some e → Known t st → 1 ≤ st x → Reads t st st (st x) (λ look. look x)
 reads-marked {t} {st} x e f k h =
     record {
-      range = h;
       met = λ m o p. ap markOf (name-met t o x e f (p .all x m));
       known = λ _. k;
       grows = λ _. grows-none;
@@ -170,7 +164,6 @@ pub reads-then : {t : Table Bytes} {st st₁ st₂ : Marks} {a : ℕ} (f g : (By
 reads-then {t} {st} {st₁} {st₂} {a} f g m p q =
     let l : 2 ≤ 3 = omega arith in
     record {
-      range = q .range;
       met = λ e o w. then-mark (f (nameList t o)) (g (nameList t o)) (settled-so f o m (p .known l) (opened-unfinished w (p .grows l)) l (p .settled l)) ∙ q .met e o (opened-grows w (p .grows l));
       known = q .known;
       grows = λ h. grows-more (p .grows l) (q .grows h);
@@ -188,7 +181,6 @@ reads-then {t} {st} {st₁} {st₂} {a} f g m p q =
 pub reads-stop : {t : Table Bytes} {st st₁ : Marks} {a : ℕ} (f g : (Bytes → Reading) → Reading) → (a ≡ 3 → ⊥) → Reads t st st₁ a f → Reads t st st₁ a (λ look. andThen (f look) (g look))
 reads-stop {t} {st} {st₁} {a} f g n p =
     record {
-      range = p .range;
       met = λ e o w. stops (f (nameList t o)) (g (nameList t o)) 1 (λ z. absurd (omega arith)) (p .met e o w);
       known = p .known;
       grows = p .grows;
@@ -284,8 +276,7 @@ module _ {t : Table Bytes} {st st₁ st₂ st₃ : Marks} {x : Bytes} {e : E} {a
   pub reads-rule : Reads t st st₃ a (λ look. look x)
   reads-rule =
       record {
-        range = body-read .range;
-        met = λ m o w. ap markOf (name-step t o x e f (not-opened o z w (member x o) refl)) ∙ body-read .met m (x ∷ o) (opens-opened s z w);
+          met = λ m o w. ap markOf (name-step t o x e f (not-opened o z w (member x o) refl)) ∙ body-read .met m (x ∷ o) (opens-opened s z w);
         known = rule-known;
         grows = rule-grows;
         settled = λ h. ap (λ (v : ℕ). markOf (byMark v)) (s₃ .here) ∙ mark-by (readIn (byMarks st₂) e) a h (body-read .settled h);

@@ -1,2 +1,3 @@
--- What a reading of skip lists leaves in the marks.
+-- Skip lists: what a reading leaves in the marks, what is lent, and what is answered.
 pub mod Memory
+pub mod Lends

@@ -52,7 +52,6 @@ pub record Grows (st st′ : Marks) : Type 0 where
 
 -- a is the mark of the reading f, which went on from the marks st to st′; f is over how a name is read
 pub record Reads (t : Table Bytes) (st st′ : Marks) (a : ℕ) (f : (Bytes → Reading) → Reading) : Type 0 where
-  pub range : 1 ≤ a
   pub met : a ≡ 1 → (o : List Bytes) → Opened st o → markOf (f (nameList t o)) ≡ 1
   pub known : 2 ≤ a → Known t st′
   pub grows : 2 ≤ a → Grows st st′

@@ -1,0 +1,106 @@
+// Skip lists. A rule's memory is word 1 of its mark: 0 not read, 1 being read, 2 no list, 3 a list. The same numbers are a reading's answer,
+// where 1 says that it came to a rule that is being read.
+ghost use mathlib.Core.Path.{_≡_};
+ghost use mathlib.Core.List.{List};
+ghost use Prim.Native.Nat.{ℕ, _+_, _*_, _/_, _≤_, _<_};
+ghost use lib.ListN.{length, getD};
+ghost use Rattle.grammar.specs.Basic.{Bytes};
+ghost use Rattle.grammar.specs.Tree.{Expr};
+ghost use Rattle.grammar.specs.Rows.{Span};
+ghost use Rattle.grammar.specs.Text.{bytesAt, resolve};
+ghost use Rattle.grammar.specs.Table.{Table};
+ghost use Rattle.grammar.specs.Lists.{readLeft, readIn};
+ghost use Rattle.rows.specs.Rows.{At, Stands};
+ghost use Rattle.names.specs.Names.{First};
+ghost use Rattle.skipper.specs.Lends.{Given, Lent, Ran, ReadsOf};
+use names::Found;
+use rows::Lookup;
+use rows::wide;
+
+const AGAIN: u32 = 1;
+const NONE: u32 = 2;
+const LIST: u32 = 3;
+
+// Reads rule i, which was not read.
+pub fn read_rule(rules: &[u32], rows: &[u32], text: &[u8], marks: &mut [u32], i: usize) -> u32
+    requires { ⌜ Given (now rules) (now rows) (now text) (now marks) ⌝ }
+    requires { ⌜ i < length (now rules) / 4 ⌝ }
+    requires { ⌜ getD (now marks) (i * 4 + 1) 0 ≡ 0 ⌝ }
+    ensures { λ a. ⌜ Ran (now (marks .entry)) (now (marks .exit)) a ⌝ }
+    ensures { λ a. ⌜ ((t : Table Span) (x : Bytes) → Lent (now (rules .entry)) (now (rows .entry)) t → First (length (now (rules .entry)) / 4) (now (rules .entry)) (now (text .entry)) x i → ReadsOf (now (text .entry)) t (now (marks .entry)) (now (marks .exit)) a (λ look. look x)) ⌝ }
+{
+    let at = i * 4 + 1;
+    marks[at] = AGAIN;
+    let end = wide(marks[at + 2]);
+    let a = read_in(rules, rows, text, marks, end - 1);
+    marks[at] = a;
+    a
+}
+
+// Reads a literal: what a Choice has on its left must be Str or Ident.
+pub fn read_leaf(rules: &[u32], rows: &[u32], text: &[u8], marks: &mut [u32], root: usize) -> u32
+    requires { ⌜ Given (now rules) (now rows) (now text) (now marks) ⌝ }
+    requires { ⌜ Stands (now rows) root ⌝ }
+    ensures { λ a. ⌜ Ran (now (marks .entry)) (now (marks .exit)) a ⌝ }
+    ensures { λ a. ⌜ ((t : Table Span) (r : Expr Span) → Lent (now (rules .entry)) (now (rows .entry)) t → At (now (rows .entry)) root r → ReadsOf (now (text .entry)) t (now (marks .entry)) (now (marks .exit)) a (λ look. readLeft look (resolve (now (text .entry)) r))) ⌝ }
+{
+    let Lookup::Row {
+        kind,
+        x,
+        y,
+        size: _,
+    } = rows::row_at(rows, root)
+    else {
+        return AGAIN;
+    };
+    if kind == 0 {
+        return LIST;
+    }
+    if kind != 3 {
+        return NONE;
+    }
+    let Found::At(i) = names::find_rule(rules, text, marks, text, wide(x), wide(y)) else {
+        return NONE;
+    };
+    let mark = marks[i * 4 + 1];
+    if mark != 0 {
+        return mark;
+    }
+    read_rule(rules, rows, text, marks, i)
+}
+
+// Reads a rule's expression: of a Choice the left side, then the right.
+pub fn read_in(rules: &[u32], rows: &[u32], text: &[u8], marks: &mut [u32], root: usize) -> u32
+    requires { ⌜ Given (now rules) (now rows) (now text) (now marks) ⌝ }
+    requires { ⌜ Stands (now rows) root ⌝ }
+    ensures { λ a. ⌜ Ran (now (marks .entry)) (now (marks .exit)) a ⌝ }
+    ensures { λ a. ⌜ ((t : Table Span) (r : Expr Span) → Lent (now (rules .entry)) (now (rows .entry)) t → At (now (rows .entry)) root r → ReadsOf (now (text .entry)) t (now (marks .entry)) (now (marks .exit)) a (λ look. readIn look (resolve (now (text .entry)) r))) ⌝ }
+{
+    let Lookup::Row {
+        kind,
+        x: _,
+        y: _,
+        size: _,
+    } = rows::row_at(rows, root)
+    else {
+        return AGAIN;
+    };
+    if kind != 9 {
+        return read_leaf(rules, rows, text, marks, root);
+    }
+    let right = root - 1;
+    let Lookup::Row {
+        kind: _,
+        x: _,
+        y: _,
+        size: n,
+    } = rows::row_at(rows, right)
+    else {
+        return AGAIN;
+    };
+    let a = read_leaf(rules, rows, text, marks, right - wide(n));
+    if a != LIST {
+        return a;
+    }
+    read_in(rules, rows, text, marks, right)
+}
