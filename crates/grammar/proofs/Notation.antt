@@ -6,7 +6,7 @@ use Rattle.grammar.specs.Basic.{Bytes}
 use Rattle.grammar.specs.Tree.{Choice, E, Ident, NegPred, Opt, Push, Rep, RestoreOnErr, Seq, Str, bin, lit, un}
 use Rattle.grammar.specs.Table.{Rule, Table, Words, wordsOf}
 use Rattle.grammar.specs.Lists.{ANY}
-use Rattle.grammar.specs.Optimize.{Answer, answer, finished, optimize, refused}
+use Rattle.grammar.specs.Optimize.{Answer, Result, finished, ofWords, optimize, refused}
 
 -- output and work areas of full size; what stands in them before the call is any number, here 165 in each byte
 abbrev pub full : Words
@@ -24,22 +24,31 @@ pub data Example : Type 0 where
   gives : Table Bytes → Table Bytes → Example
   refuses : Table Bytes → ℕ → Example
 
-unfoldable pub found : Example → Answer
-unfolding call
-found (whole w a) = call w
-found (makes w u) = call w
-found (numbered w n) = call w
-found (gives t u) = call (wordsOf t)
-found (refuses t n) = call (wordsOf t)
+-- of a `whole` everything is compared, else how the call ends; of a table that is given back all but the report
+pub data Seen : Type 0 where
+  all : Answer → Seen
+  end : Result → Seen
 
--- what the document says: of a table all but the report
-unfoldable pub wanted : Example → Answer
-unfolding call
-wanted (whole w a) = a
-wanted (makes w u) = answer full (finished (call w .report) u)
-wanted (numbered w n) = answer full (refused n)
-wanted (gives t u) = answer full (finished (call (wordsOf t) .report) u)
-wanted (refuses t n) = answer full (refused n)
+unfoldable pub found : Example → Seen
+unfolding call ofWords
+found (whole w a) = all (call w)
+found (makes w u) = end (ofWords w)
+found (numbered w n) = end (ofWords w)
+found (gives t u) = end (ofWords (wordsOf t))
+found (refuses t n) = end (ofWords (wordsOf t))
+
+abbrev reportOf : Result → List ℕ
+reportOf (refused n) = []
+reportOf (finished report t) = report
+
+-- what the document says
+unfoldable pub wanted : Example → Seen
+unfolding ofWords
+wanted (whole w a) = all a
+wanted (makes w u) = end (finished (reportOf (ofWords w)) u)
+wanted (numbered w n) = end (refused n)
+wanted (gives t u) = end (finished (reportOf (ofWords (wordsOf t))) u)
+wanted (refuses t n) = end (refused n)
 
 -- bytes: the letters a, b, c, d, r, x, y and z
 abbrev pub a : Bytes

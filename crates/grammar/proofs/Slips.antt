@@ -1,15 +1,23 @@
 -- What a wrong definition would pass: the order of the refusals, and the "Easy slips" of 01. One table, one theorem. Assumes nothing.
-use mathlib.Core.Path.{_≡_, refl}
+use mathlib.Core.Path.{_≡_, refl, ap}
 use mathlib.Core.List.{List, [], _∷_, _++_, map}
-use Prim.Native.Nat.{ℕ, zero, suc}
+use Prim.Native.Nat.{ℕ, zero, suc, _+_, _≤_, _<_}
 use lib.ListN.{replicate}
+use lib.Dec.{ltb, eqb·suc-zero, lit<}
+use borrow.Author.Tests.{lt-ltb}
+use native.Mathlib.Omega.{arith}
+use mathlib.Core.Bool.{Bool, _||_, true}
 use Rattle.grammar.specs.Basic.{Bytes}
-use Rattle.grammar.specs.Tree.{E, Insens, Range, RepExact, RepMax, RepMinMax, fixed, lit, skip, un}
-use Rattle.grammar.specs.Table.{Atomic, Normal, Table, Words}
+use Rattle.grammar.specs.Tree.{E, Insens, Range, RepExact, RepMax, RepMinMax, fixed, lit, size, skip, un}
+use Rattle.grammar.specs.Table.{Atomic, Normal, Table, Words, rowCount}
 use Rattle.grammar.specs.Lists.{ANY}
 use Rattle.grammar.specs.Stack.{DROP, POP}
-use Rattle.grammar.specs.Optimize.{Answer, optimize}
-use Rattle.grammar.proofs.Notation.{Example, _or_, _~_, a, b, c, call, d, found, full, gives, id, makes, numbered, opt, push, r, refuses, rep, restored, rule, sole, str, until, wanted, x, y, z}
+use Rattle.grammar.specs.Steps.{rotate, skipTo, unroll, unrolled}
+use Rattle.grammar.specs.Refusals.{maxRows, tooLarge}
+use Rattle.grammar.specs.Optimize.{Result, finish, finished, ofTable, ofWords, optimize, refused, stages}
+use Rattle.grammar.proofs.Notation.{Example, _or_, _~_, a, b, c, d, found, full, gives, id, makes, numbered, opt, push, r, refuses, rep, restored, rule, sole, str, until, wanted, x, y, z}
+use Rattle.grammar.proofs.Sizes.{nest-size, weigh}
+use Rattle.grammar.proofs.TopDown.{size-pos}
 
 -- the input words of a sole rule of n rows over the text rab
 of : ℕ → ℕ → List ℕ → Words
@@ -138,11 +146,35 @@ short-first : optimize (record { rules = 0 ∷ []; rows = []; text = [] }) full 
 unfolding optimize
 short-first = refl
 
--- W11: a sole Normal rule r, RepExact n of "a"
-w11 : ℕ → Answer
-unfolding call
-w11 n = call (record { rules = 0 ∷ 1 ∷ 0 ∷ 2 ∷ []; rows = 0 ∷ 1 ∷ 1 ∷ 1 ∷ 13 ∷ n ∷ 0 ∷ 2 ∷ []; text = 114 ∷ 97 ∷ [] })
+-- W11: a sole Normal rule r, RepExact n of "a": its rows at the end, or its number
+rowsOr : Result → ℕ
+rowsOr (refused n) = n
+rowsOr (finished report t) = rowCount t
 
-w11-holds : (w11 2048 .number ∷ w11 2048 .rows ∷ w11 2049 .number ∷ w11 2049 .rows ∷ []) ≡ 0 ∷ 4095 ∷ 8 ∷ 0 ∷ []
+w11 : ℕ → ℕ
+unfolding ofWords rowsOr
+w11 n = rowsOr (ofWords (record { rules = 0 ∷ 1 ∷ 0 ∷ 2 ∷ []; rows = 0 ∷ 1 ∷ 1 ∷ 1 ∷ 13 ∷ n ∷ 0 ∷ 2 ∷ []; text = 114 ∷ 97 ∷ [] }))
+
+w11-holds : (w11 2048 ∷ w11 2049 ∷ []) ≡ 4095 ∷ 8 ∷ []
 unfolding w11
 w11-holds = refl
+
+-- Nested counts: RepExact n of RepExact n of "a" is refused 8 for every n past full size, without writing it out
+
+counted : ℕ → E
+counted n = un (RepExact n) (un (RepExact n) (str a))
+
+weigh-least : (n : ℕ) (e : E) → n ≤ weigh (replicate n e)
+weigh-least zero e = omega arith
+weigh-least (suc n) e = omega (arith, weigh-least n e, size-pos e)
+
+nested-counts : (n : ℕ) → maxRows < n → ofTable (sole Normal (counted (suc n))) ≡ refused 8
+unfolding ofTable finish stages rotate skipTo unroll tooLarge counted
+nested-counts n h =
+    let once : E = unrolled (RepExact (suc n)) (str a) in
+    let big : maxRows < size (unrolled (RepExact (suc n)) once) + 0 = omega (arith, nest-size once (replicate n once), weigh-least (suc n) once) in
+    simp (eqb·suc-zero n, lt-ltb _ _ big)
+
+-- 4,294,967,295 rows of 4,294,967,295 rows would wrap to one
+nested-largest : ofTable (sole Normal (counted 4294967295)) ≡ refused 8
+nested-largest = nested-counts 4294967294 (lit< tt)

@@ -19,7 +19,7 @@ pub enum Found {
 
 // A byte as a number.
 fn byte(b: u8) -> usize
-    ensures { λ r. ⌜ r ≡ b ⌝ }
+    ensures { λ r. ⌜ (r ≡ b) × (r < 256) ⌝ }
 {
     b as usize
 }
