@@ -1,3 +1,4 @@
 -- Laws of skip lists.
 pub mod Memories
 pub mod Rules
+pub mod Leaf

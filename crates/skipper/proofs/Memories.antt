@@ -281,3 +281,7 @@ module _ {t : Table Bytes} {st st₁ st₂ st₃ : Marks} {x : Bytes} {e : E} {a
         grows = rule-grows;
         settled = λ h. ap (λ (v : ℕ). markOf (byMark v)) (s₃ .here) ∙ mark-by (readIn (byMarks st₂) e) a h (body-read .settled h);
       }
+
+-- a name of no rule
+pub reads-unknown : {t : Table Bytes} {st : Marks} (x : Bytes) → Known t st → st x ≡ 2 → Reads t st st 2 (λ look. look x)
+reads-unknown x k e = record { met = λ m. absurd (omega arith); known = λ _. k; grows = λ _. grows-none; settled = λ _. rw e }

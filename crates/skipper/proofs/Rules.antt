@@ -1,21 +1,24 @@
 -- Marks in words: one memory is written, and which rule a name has. Assumes nothing.
 use mathlib.Core.Path.{_≡_, refl, sym, ap, ap₂, _∙_, subst}
 use mathlib.Core.Bool.{false≢true, Bool, true, false, _||_, cond}
-use mathlib.Core.List.{List, [], _∷_}
+use mathlib.Core.List.{List, [], _∷_, _++_, append-assoc}
 use mathlib.Core.Option.{Option, none, some}
-use Prim.Native.Nat.{ℕ, zero, suc, _+_, _*_, _≤_, _<_}
+use Prim.Native.Nat.{ℕ, zero, suc, _+_, _-_, _*_, _≤_, _<_}
 use native.Mathlib.Nat.{add-zero}
 use native.Mathlib.Omega.{arith}
-use lib.ListN.{length, getD, set, length-set}
+use lib.ListN.{length, getD, set, getElem?, length-set, length-append}
 use lib.Seq.{getD-set-same, getD-set-other}
 use lib.Dec.{eqb}
 use Rattle.grammar.specs.Basic.{Bytes, sameBytes}
-use Rattle.grammar.specs.Tree.{E}
-use Rattle.grammar.specs.Rows.{Span}
-use Rattle.grammar.specs.Text.{bytesAt}
-use Rattle.grammar.specs.Table.{Table, Rule, ruleWords, resolveTable, find}
+use Rattle.grammar.specs.Tree.{E, size}
+use Rattle.grammar.specs.Rows.{Span, flat}
+use Rattle.grammar.specs.Text.{bytesAt, resolve}
+use Rattle.grammar.specs.Table.{Table, Rule, ruleWords, rowWords, resolveTable, find}
 use Rattle.grammar.proofs.Logic.{none-some, some-eq, eqb-self, eqb-eq, sameBytes-eq, eq-sameBytes}
-use Rattle.names.specs.Names.{nameOf, First, Hashed, Ended}
+use Rattle.rows.specs.Rows.{At}
+use Rattle.rows.proofs.Laws.{size-pos, length-flat}
+use Rattle.names.proofs.Finding.{rule-words}
+use Rattle.names.specs.Names.{nameOf, rowsBefore, First, Hashed, Ended}
 use Rattle.skipper.specs.Memory.{Marks}
 use Rattle.skipper.specs.Lends.{indexFrom, stateAt, marksOf, zeros, Steady}
 use Rattle.skipper.proofs.Memories.{Sets}
@@ -117,3 +120,42 @@ index-nothing i [] text x n = refl
 index-nothing i (r ∷ rs) text x n =
     let m : bytesAt text (r .name) ≡ x → ⊥ = λ q. n 0 (omega arith) q in
     rw (sameBytes-no (bytesAt text (r .name)) x m) (index-nothing (suc i) rs text x (λ j g q. n (suc j) (omega arith) (name-later r rs text j ∙ q)))
+
+-- What a search by name says of the table
+
+-- a name of no rule
+pub find-nothing : (t : Table Span) (text x : Bytes) → ((j : ℕ) → j < length t → nameOf (ruleWords t) text j ≡ x → ⊥) → find (resolveTable text t) x ≡ none
+find-nothing [] text x n = refl
+find-nothing (r ∷ rs) text x n =
+    let m : bytesAt text (r .name) ≡ x → ⊥ = λ q. n 0 (omega arith) q in
+    rw (sameBytes-no (bytesAt text (r .name)) x m) (find-nothing rs text x (λ j g q. n (suc j) (omega arith) (name-later r rs text j ∙ q)))
+
+pub find-first : (t : Table Span) (text x : Bytes) (k : ℕ) (s : Rule Span) → getElem? t k ≡ some s → nameOf (ruleWords t) text k ≡ x → ((j : ℕ) → j < k → nameOf (ruleWords t) text j ≡ x → ⊥) → find (resolveTable text t) x ≡ some (resolve text (s .body))
+find-first [] text x k s h e n = none-some h
+find-first (r ∷ rs) text x zero s h e n =
+    let q : r ≡ s = some-eq r s h in
+    rw (eq-sameBytes (bytesAt text (r .name)) x e) (rw q)
+find-first (r ∷ rs) text x (suc k) s h e n =
+    let m : bytesAt text (r .name) ≡ x → ⊥ = λ q. n 0 (omega arith) q in
+    rw (sameBytes-no (bytesAt text (r .name)) x m)
+    (find-first rs text x k s h (sym (name-later r rs text k) ∙ e) (λ j g q. n (suc j) (omega arith) (name-later r rs text j ∙ q)))
+
+-- where a rule's tree stands
+rows-later : (r : Rule Span) (t : Table Span) (i : ℕ) → rowsBefore (ruleWords (r ∷ t)) (suc i) ≡ size (r .body) + rowsBefore (ruleWords t) i
+rows-later r t zero = omega arith
+rows-later r t (suc i) = omega (arith, rows-later r t i, word-later (r .name .0) (r .name .1) (r .type) (size (r .body)) (ruleWords t) i 3)
+
+pub rule-at : (t : Table Span) (i : ℕ) (s : Rule Span) → getElem? t i ≡ some s → At (rowWords t) (rowsBefore (ruleWords t) (suc i) - 1) (s .body)
+rule-at [] i s h = none-some h
+rule-at (r ∷ rs) zero s h =
+    let q : r ≡ s = some-eq r s h in
+    rw q (record { before = []; after = rowWords rs; whole = refl; place = omega (arith, size-pos (s .body)) })
+rule-at (r ∷ rs) (suc i) s h =
+    let a = rule-at rs i s h in
+    let w : rowWords rs ≡ a .before ++ (flat (s .body) ++ a .after) = a .whole in
+    record {
+      before = flat (r .body) ++ a .before;
+      after = a .after;
+      whole = ap (λ (v : List ℕ). flat (r .body) ++ v) w ∙ simp append-assoc;
+      place = omega (arith, a .place, rows-later r rs (suc i), length-append (flat (r .body)) (a .before), length-flat (r .body), size-pos (s .body), rule-words rs i s h .rows′);
+    }

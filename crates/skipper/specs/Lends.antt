@@ -61,6 +61,5 @@ pub record Ran (m m′ : List ℕ) (a : ℕ) : Type 0 where
   pub least : 1 ≤ a
 
 -- a is the mark of the reading f, of the table t with the text s, which changed the marks m to m′
-unfoldable pub ReadsOf : Bytes → Table Span → (m m′ : List ℕ) → ℕ → ((Bytes → Reading) → Reading) → Type 0
-unfolding marksOf
-ReadsOf s t m m′ a f = Known (resolveTable s t) (marksOf (resolveTable s t) m) → Reads (resolveTable s t) (marksOf (resolveTable s t) m) (marksOf (resolveTable s t) m′) a f
+pub record ReadsOf (s : Bytes) (t : Table Span) (m m′ : List ℕ) (a : ℕ) (f : (Bytes → Reading) → Reading) : Type 0 where
+  pub read : Known (resolveTable s t) (marksOf (resolveTable s t) m) → Reads (resolveTable s t) (marksOf (resolveTable s t) m) (marksOf (resolveTable s t) m′) a f
