@@ -6,21 +6,22 @@ use Prim.Native.Nat.{ℕ, _+_, _-_, _*_, _/_, _≤_, _<_}
 use native.Mathlib.Omega.{arith}
 use lib.ListN.{length, getD, set, getElem?, length-set}
 use Rattle.grammar.specs.Basic.{Bytes}
-use Rattle.grammar.specs.Tree.{Lit, Str, Insens, Ident, Seq, Choice, E, Expr, lit, fixed, skip, un, bin}
+use Rattle.grammar.specs.Tree.{Lit, Str, Insens, Ident, Seq, Choice, E, Expr, lit, fixed, skip, un, bin, size}
 use Rattle.grammar.specs.Rows.{Span}
 use Rattle.grammar.specs.Text.{bytesAt, resolve}
 use Rattle.grammar.specs.Table.{Table, resolveTable, find}
 use Rattle.grammar.specs.Lists.{Reading, nothing, strings, andThen, readLeft, readIn}
 use Rattle.rows.specs.Rows.{At}
-use Rattle.rows.proofs.Laws.{Found, root}
+use Rattle.rows.proofs.Laws.{Found, root, found-size, size-pos}
 use Rattle.rows.proofs.Cells.{lit-shape, bin-shape}
 use Rattle.rows.proofs.Views.{TwoView, as-lit, as-two, lit-is, two-is}
 use Rattle.names.specs.Names.{Hashed, Ended, First, Finds}
-use Rattle.names.specs.declared.Found.the-variants.{Nothing}
-use Rattle.names.proofs.Finding.{There, there, rule-count}
+use Rattle.names.specs.declared.Found.{Found as Found′}
+use Rattle.names.specs.declared.Found.the-variants.{At as Sited, Nothing}
+use Rattle.names.proofs.Finding.{There, there, rule-count, rule-words}
 use Rattle.skipper.specs.Memory.{Known, Reads}
 use Rattle.skipper.specs.Lends.{indexFrom, marksOf, Lent, Given, Steady, Ran, ReadsOf}
-use Rattle.skipper.proofs.Memories.{Sets, left-mono, reads-plain, reads-marked, reads-unknown, reads-then, reads-stop, reads-rule}
+use Rattle.skipper.proofs.Memories.{Monotone, left-mono, reads-plain, reads-marked, reads-unknown, reads-then, reads-stop, reads-rule}
 use Rattle.skipper.proofs.Rules.{zeros-set, steady-none, steady-more, steady-set, sets-mark, index-first, index-nothing, find-first, find-nothing, rule-at}
 
 -- what is lent stays lent
@@ -33,6 +34,22 @@ given-steady g s l =
       hashed = record { inside = g .hashed .inside; long = omega (arith, g .hashed .long); hash = λ i h. s .hash i ∙ g .hashed .hash i h };
       ended = record { end = λ i h. s .end i ∙ g .ended .end i h };
     }
+
+-- what a search found, of a name that was handed over word by word
+module _ (n : ℕ) (rules : List ℕ) (s : Bytes) {p q x y : ℕ} {f : Found′} (d : p ≡ x) (e : q ≡ y) (h : Finds n rules s (bytesAt s (p, q)) f) where
+  pub finds-at : {i : ℕ} → f ≡ Sited i → First n rules s (bytesAt s (x, y)) i
+  finds-at g = rw (d, e, g) at h
+
+  pub finds-nothing : f ≡ Nothing → Finds n rules s (bytesAt s (x, y)) Nothing
+  finds-nothing g = rw (d, e, g) at h
+
+-- both sides of a Choice
+module _ {w : List ℕ} {i k x y n : ℕ} {r : Expr Span} (f : Found w i k x y n) (a : At w i r) (z : k ≡ 9) where
+  pub choice-view : TwoView w i k x y n r
+  choice-view = as-two f a (rw z (bin-shape Choice))
+
+  pub choice-left : {k′ x′ y′ n′ h : ℕ} → Found w (i - 1) k′ x′ y′ n′ → h ≡ n′ → At w (i - 1 - h) (choice-view .left)
+  choice-left g c = rw (c ∙ found-size g (choice-view .atRight)) (choice-view .atLeft)
 
 module _ (s : Bytes) {t : Table Span} {m : List ℕ} where
   -- "Str s: the list s"
@@ -62,12 +79,20 @@ module _ (s : Bytes) {t : Table Span} {m : List ℕ} where
   in-leaf {r = bin Seq l e} f a z h = h
   in-leaf {r = bin Choice l e} f a z h = absurd (z (sym (f .kind) ∙ root a .kind))
 
-  -- "Choice: its list, then right's list"; "the first none ends it"
-  pub in-stop : {m′ : List ℕ} {v : ℕ} (l e : E) → (v ≡ 3 → ⊥) → ReadsOf s t m m′ v (λ look. readLeft look l) → ReadsOf s t m m′ v (λ look. readIn look (bin Choice l e))
-  in-stop l e z h = record { read = λ known. reads-stop (λ look. readLeft look l) (λ look. readIn look e) z (h .read known) }
+-- "Choice: its list, then right's list. The first none ends it": `left` reads the left side, `whole` the Choice and its right side
+module _ (left whole : (Bytes → Reading) → E → Reading) (mono : (e : E) → Monotone (λ look. left look e)) (step : (l e : E) → _≡_ {A = (Bytes → Reading) → Reading} (λ look. whole look (bin Choice l e)) (λ look. andThen (left look l) (whole look e))) (s : Bytes) (t : Table Span) {m m₁ : List ℕ} {w : List ℕ} {i k x y n k′ x′ y′ n′ h : ℕ} {r : Expr Span} (f : Found w i k x y n) (a : At w i r) (z : k ≡ 9) (g : Found w (i - 1) k′ x′ y′ n′) (c : h ≡ n′) where
+  pub choice-stop : {v : ℕ} → (v ≡ 3 → ⊥) → ((q : Expr Span) → At w (i - 1 - h) q → ReadsOf s t m m₁ v (λ look. left look (resolve s q))) → ReadsOf s t m m₁ v (λ look. whole look (resolve s r))
+  choice-stop q p =
+      let v = choice-view f a z in
+      rw (two-is Choice v z, step (resolve s (v .left)) (resolve s (v .right)))
+      (record { read = λ known. reads-stop (λ look. left look (resolve s (v .left))) (λ look. whole look (resolve s (v .right))) q (p (v .left) (choice-left f a z g c) .read known) })
 
-  pub in-then : {m₁ m₂ : List ℕ} {v : ℕ} (l e : E) → ReadsOf s t m m₁ 3 (λ look. readLeft look l) → ReadsOf s t m₁ m₂ v (λ look. readIn look e) → ReadsOf s t m m₂ v (λ look. readIn look (bin Choice l e))
-  in-then l e h g = record { read = λ known. reads-then (λ look. readLeft look l) (λ look. readIn look e) (left-mono l) (h .read known) (g .read (h .read known .known (omega arith))) }
+  pub choice-then : {m₂ : List ℕ} {v : ℕ} → ((q : Expr Span) → At w (i - 1 - h) q → ReadsOf s t m m₁ 3 (λ look. left look (resolve s q))) → ((q : Expr Span) → At w (i - 1) q → ReadsOf s t m₁ m₂ v (λ look. whole look (resolve s q))) → ReadsOf s t m m₂ v (λ look. whole look (resolve s r))
+  choice-then p q =
+      let v = choice-view f a z in
+      let l = p (v .left) (choice-left f a z g c) in
+      rw (two-is Choice v z, step (resolve s (v .left)) (resolve s (v .right)))
+      (record { read = λ known. reads-then (λ look. left look (resolve s (v .left))) (λ look. whole look (resolve s (v .right))) (mono (resolve s (v .left))) (l .read known) (q (v .right) (v .atRight) .read (l .read known .known (omega arith))) })
 
 -- Rule k
 module _ {rules rows : List ℕ} {t : Table Span} (lent : Lent rules rows t) where
@@ -79,6 +104,12 @@ module _ {rules rows : List ℕ} {t : Table Span} (lent : Lent rules rows t) whe
 
   pub rule-stands : {m : List ℕ} (k : ℕ) (r : There t k) → k < length rules / 4 → Ended rules m → At rows (getD m (k * 4 + 3) 0 - 1) (r .rule .body)
   rule-stands k r h d = rw (lent .trees, d .end k h, lent .heads) (rule-at t k (r .rule) (r .is))
+
+  pub rule-end : {m : List ℕ} (k : ℕ) → k < length rules / 4 → Ended rules m → 1 ≤ getD m (k * 4 + 3) 0
+  rule-end k h d =
+      let r = rule-there k h in
+      let e : getD rules (k * 4 + 3) 0 ≡ size (r .rule .body) = ap (λ (v : List ℕ). getD v (k * 4 + 3) 0) (lent .heads) ∙ rule-words t k (r .rule) (r .is) .rows′ in
+      omega (arith, d .end k h, size-pos (r .rule .body))
 
   -- a name, looked up
   module _ (s : Bytes) (m : List ℕ) (x : Bytes) where

@@ -29,11 +29,11 @@ pub fn read_rule(rules: &[u32], rows: &[u32], text: &[u8], marks: &mut [u32], i:
     ensures { λ a. ⌜ Ran (now (marks .entry)) (now (marks .exit)) a ⌝ }
     ensures { λ a. ⌜ ((t : Table Span) (x : Bytes) → Lent (now (rules .entry)) (now (rows .entry)) t → First (length (now (rules .entry)) / 4) (now (rules .entry)) (now (text .entry)) x i → ReadsOf (now (text .entry)) t (now (marks .entry)) (now (marks .exit)) a (λ look. look x)) ⌝ }
 {
-    let at = i * 4 + 1;
-    marks[at] = AGAIN;
-    let end = wide(marks[at + 2]);
+    let at = i * 4;
+    let end = wide(marks[at + 3]);
+    marks[at + 1] = AGAIN;
     let a = read_in(rules, rows, text, marks, end - 1);
-    marks[at] = a;
+    marks[at + 1] = a;
     a
 }
 
