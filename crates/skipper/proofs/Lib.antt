@@ -2,3 +2,5 @@
 pub mod Memories
 pub mod Rules
 pub mod Leaf
+pub mod Looping
+pub mod Settles

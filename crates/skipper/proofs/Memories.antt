@@ -34,6 +34,7 @@ opened-less (r ∷ rs) x o e h = go (sameBytes (r .name) x) h (opened-less rs x 
     less : (b : Bool) → unopened rs (x ∷ o) < length rs → cond b 0 1 + unopened rs (x ∷ o) < length (r ∷ rs)
     less true k = omega arith
     less false k = omega arith
+
     go : (a : Bool) → cond a (some (r .body)) (find rs x) ≡ some e → (find rs x ≡ some e → unopened rs (x ∷ o) < length rs) → unopened rs (x ∷ o) ≤ length rs → cond (a || member (r .name) o) 0 1 + unopened rs (x ∷ o) < length (r ∷ rs)
     go true q ih m = omega arith
     go false q ih m = less (member (r .name) o) (ih q)
@@ -206,6 +207,7 @@ opens-known {t} {st} {st₁} {x} s z k = record { so = λ y o h u. go y o h u (b
     keeps : (w : Bytes) → st₁ w < 2 → Dec (w ≡ x) → st w < 2
     keeps w h (yes e) = rw e (omega arith)
     keeps w h (no n) = omega (arith, s .others w n)
+
     go : (y : Bytes) (o : List Bytes) → 2 ≤ st₁ y → Unfinished st₁ o → Dec (y ≡ x) → markOf (nameList t o y) ≡ st₁ y
     go y o h u (yes e) = absurd (omega (arith, ap st₁ e, s .here))
     go y o h u (no n) = k .so y o (omega (arith, s .others y n)) (λ w m. keeps w (u w m) (bytes-discrete w x)) ∙ sym (s .others y n)
@@ -219,6 +221,7 @@ opens-opened {st} {st₁} {x} {o} s z p = record { all = λ w e. all w e (bytes-
     all : (w : Bytes) → st₁ w ≡ 1 → Dec (w ≡ x) → member w (x ∷ o) ≡ true
     all w e (yes q) = or-left (sameBytes w x) (member w o) (eq-sameBytes w x q)
     all w e (no n) = or-right (sameBytes w x) (member w o) (p .all w (sym (s .others w n) ∙ e))
+
     only : (w : Bytes) → member w (x ∷ o) ≡ true → Dec (w ≡ x) → st₁ w ≡ 1
     only w m (yes q) = ap st₁ q ∙ s .here
     only w m (no n) = s .others w n ∙ p .only w (member-other w x o n m)
@@ -266,9 +269,11 @@ module _ {t : Table Bytes} {st st₁ st₂ st₃ : Marks} {x : Bytes} {e : E} {a
       done : (w : Bytes) → 2 ≤ st w → Dec (w ≡ x) → st₃ w ≡ st w
       done w l (yes q) = absurd (omega (arith, ap st q))
       done w l (no n) = s₃ .others w n ∙ body-read .grows h .done w (omega (arith, s .others w n)) ∙ s .others w n
+
       still : (w : Bytes) → st w ≡ 1 → Dec (w ≡ x) → st₃ w ≡ 1
       still w q (yes v) = absurd (omega (arith, ap st v))
       still w q (no n) = s₃ .others w n ∙ body-read .grows h .still w (s .others w n ∙ q)
+
       same : (w : Bytes) → st₃ w ≡ 1 → Dec (w ≡ x) → st w ≡ 1
       same w q (yes v) = absurd (omega (arith, ap st₃ v, s₃ .here))
       same w q (no n) = sym (s .others w n) ∙ body-read .grows h .same w (sym (s₃ .others w n) ∙ q)
@@ -276,7 +281,7 @@ module _ {t : Table Bytes} {st st₁ st₂ st₃ : Marks} {x : Bytes} {e : E} {a
   pub reads-rule : Reads t st st₃ a (λ look. look x)
   reads-rule =
       record {
-          met = λ m o w. ap markOf (name-step t o x e f (not-opened o z w (member x o) refl)) ∙ body-read .met m (x ∷ o) (opens-opened s z w);
+        met = λ m o w. ap markOf (name-step t o x e f (not-opened o z w (member x o) refl)) ∙ body-read .met m (x ∷ o) (opens-opened s z w);
         known = rule-known;
         grows = rule-grows;
         settled = λ h. ap (λ (v : ℕ). markOf (byMark v)) (s₃ .here) ∙ mark-by (readIn (byMarks st₂) e) a h (body-read .settled h);

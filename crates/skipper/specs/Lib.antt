@@ -1,3 +1,4 @@
 -- Skip lists: what a reading leaves in the marks, what is lent, and what is answered.
 pub mod Memory
 pub mod Lends
+pub mod Loops

@@ -2,24 +2,34 @@
 // where 1 says that it came to a rule that is being read.
 ghost use mathlib.Core.Path.{_≡_};
 ghost use mathlib.Core.List.{List};
-ghost use Prim.Native.Nat.{ℕ, _+_, _*_, _/_, _≤_, _<_};
+ghost use Prim.Native.Nat.{ℕ, _+_, _-_, _*_, _/_, _≤_, _<_};
 ghost use lib.ListN.{length, getD};
 ghost use Rattle.grammar.specs.Basic.{Bytes};
-ghost use Rattle.grammar.specs.Tree.{Expr};
+ghost use Rattle.grammar.specs.Tree.{Expr, Rep, un, anyNode, asNegPred};
 ghost use Rattle.grammar.specs.Rows.{Span};
 ghost use Rattle.grammar.specs.Text.{bytesAt, resolve};
 ghost use Rattle.grammar.specs.Table.{Table};
-ghost use Rattle.grammar.specs.Lists.{readLeft, readIn};
-ghost use Rattle.rows.specs.Rows.{At, Stands};
+ghost use Rattle.grammar.specs.Lists.{readLeft, readIn, loopOver};
+ghost use Rattle.grammar.specs.Steps.{rotate};
+ghost use Rattle.rows.specs.Rows.{Inside, At, Stands};
 ghost use Rattle.names.specs.Names.{First};
 ghost use Rattle.skipper.specs.Lends.{Given, Lent, Ran, ReadsOf};
+ghost use Rattle.skipper.specs.Loops.{LoopAnswer, TreeRows, openAt, LoopsOf};
 use names::Found;
 use rows::Lookup;
 use rows::wide;
 
 const AGAIN: u32 = 1;
+
 const NONE: u32 = 2;
+
 const LIST: u32 = 3;
+
+// Where the expression of a loop stands.
+pub enum Loop {
+    Over(usize),
+    Nothing,
+}
 
 // Reads rule i, which was not read.
 pub fn read_rule(rules: &[u32], rows: &[u32], text: &[u8], marks: &mut [u32], i: usize) -> u32
@@ -103,4 +113,148 @@ pub fn read_in(rules: &[u32], rows: &[u32], text: &[u8], marks: &mut [u32], root
         return a;
     }
     read_in(rules, rows, text, marks, right)
+}
+
+// Reads the expression of a loop, which counts as rotated: the leaves of its Choice tree from left to right.
+pub fn read_leaves(rules: &[u32], rows: &[u32], text: &[u8], marks: &mut [u32], root: usize) -> u32
+    requires { ⌜ Given (now rules) (now rows) (now text) (now marks) ⌝ }
+    requires { ⌜ Stands (now rows) root ⌝ }
+    ensures { λ a. ⌜ Ran (now (marks .entry)) (now (marks .exit)) a ⌝ }
+    ensures { λ a. ⌜ ((t : Table Span) (r : Expr Span) → Lent (now (rules .entry)) (now (rows .entry)) t → At (now (rows .entry)) root r → ReadsOf (now (text .entry)) t (now (marks .entry)) (now (marks .exit)) a (λ look. readIn look (rotate (resolve (now (text .entry)) r)))) ⌝ }
+{
+    let Lookup::Row {
+        kind,
+        x: _,
+        y: _,
+        size: _,
+    } = rows::row_at(rows, root)
+    else {
+        return AGAIN;
+    };
+    if kind != 9 {
+        return read_leaf(rules, rows, text, marks, root);
+    }
+    let right = root - 1;
+    let Lookup::Row {
+        kind: _,
+        x: _,
+        y: _,
+        size: n,
+    } = rows::row_at(rows, right)
+    else {
+        return AGAIN;
+    };
+    let a = read_leaves(rules, rows, text, marks, right - wide(n));
+    if a != LIST {
+        return a;
+    }
+    read_leaves(rules, rows, text, marks, right)
+}
+
+// The row of e where !e ~ ANY stands at `root`.
+pub fn in_loop(rows: &[u32], text: &[u8], root: usize) -> Loop
+    requires { ⌜ Inside (now rows) (length (now text)) ⌝ }
+    requires { ⌜ Stands (now rows) root ⌝ }
+    ensures { λ a. ⌜ ((r : Expr Span) → At (now (rows .entry)) root r → LoopAnswer a (now (rows .entry)) (now (text .entry)) (loopOver (un Rep (resolve (now (text .entry)) r)))) ⌝ }
+{
+    let Lookup::Row {
+        kind,
+        x: _,
+        y: _,
+        size: _,
+    } = rows::row_at(rows, root)
+    else {
+        return Loop::Nothing;
+    };
+    if kind != 8 {
+        return Loop::Nothing;
+    }
+    let right = root - 1;
+    let Lookup::Row {
+        kind: k,
+        x,
+        y,
+        size: _,
+    } = rows::row_at(rows, right)
+    else {
+        return Loop::Nothing;
+    };
+    if k != 3 {
+        return Loop::Nothing;
+    }
+    if names::is_any(text, wide(x), wide(y)) {
+        after_not(rows, right - 1)
+    } else {
+        Loop::Nothing
+    }
+}
+
+// The row of e where !e stands at `root`.
+pub fn after_not(rows: &[u32], root: usize) -> Loop
+    requires { ⌜ Stands (now rows) root ⌝ }
+    ensures { λ a. ⌜ ((s : Bytes) (r : Expr Span) → At (now (rows .entry)) root r → LoopAnswer a (now (rows .entry)) s (asNegPred (resolve s r))) ⌝ }
+{
+    let Lookup::Row {
+        kind,
+        x: _,
+        y: _,
+        size: _,
+    } = rows::row_at(rows, root)
+    else {
+        return Loop::Nothing;
+    };
+    if kind != 7 {
+        return Loop::Nothing;
+    }
+    Loop::Over(root - 1)
+}
+
+// Reads row i if it is a loop (!e ~ ANY)*.
+pub fn read_loop(rules: &[u32], rows: &[u32], text: &[u8], marks: &mut [u32], i: usize) -> u32
+    requires { ⌜ Given (now rules) (now rows) (now text) (now marks) ⌝ }
+    requires { ⌜ Stands (now rows) i ⌝ }
+    ensures { λ a. ⌜ Ran (now (marks .entry)) (now (marks .exit)) a ⌝ }
+    ensures { λ a. ⌜ ((t : Table Span) (r : Expr Span) → Lent (now (rules .entry)) (now (rows .entry)) t → At (now (rows .entry)) i r → LoopsOf (now (text .entry)) t (now (marks .entry)) (now (marks .exit)) a (λ look. openAt look (resolve (now (text .entry)) r))) ⌝ }
+{
+    let Lookup::Row {
+        kind,
+        x: _,
+        y: _,
+        size: _,
+    } = rows::row_at(rows, i)
+    else {
+        return LIST;
+    };
+    if kind != 11 {
+        return LIST;
+    }
+    let Loop::Over(e) = in_loop(rows, text, i - 1) else {
+        return LIST;
+    };
+    read_leaves(rules, rows, text, marks, e)
+}
+
+// Reads the loops of the rows from `from` to `end`, which are one tree.
+pub fn read_loops(
+    rules: &[u32],
+    rows: &[u32],
+    text: &[u8],
+    marks: &mut [u32],
+    from: usize,
+    end: usize,
+) -> u32
+    requires { ⌜ Given (now rules) (now rows) (now text) (now marks) ⌝ }
+    requires { ⌜ TreeRows (now rows) from end ⌝ }
+    ensures { λ a. ⌜ Ran (now (marks .entry)) (now (marks .exit)) a ⌝ }
+    ensures { λ a. ⌜ ((t : Table Span) (r : Expr Span) → Lent (now (rules .entry)) (now (rows .entry)) t → At (now (rows .entry)) (end - 1) r → LoopsOf (now (text .entry)) t (now (marks .entry)) (now (marks .exit)) a (λ look. anyNode (openAt look) (resolve (now (text .entry)) r))) ⌝ }
+{
+    let mut i = from;
+    while i < end {
+        let a = read_loop(rules, rows, text, marks, i);
+        if a == AGAIN {
+            return AGAIN;
+        }
+        i += 1;
+    }
+    LIST
 }

@@ -145,8 +145,7 @@ read-in-sub-read-leaf t c = let v = choice-view (in-read t (c .before .before .b
 -- src/lib.rt:101:9
 read-in-read-leaf-requires-2 : (t : ℕ) → read-in-lts.Need-read-leaf-requires-2 (calls-read-in t) (read-in-at t) read-in.Post
 read-in-read-leaf-requires-2 t c κs = let s = c .before .before .before .before .before .before .before .before .before .before .before .before .before .before .before in
-    let v = choice-view (in-read t (c .before .before .before .before .before .before .before)) (s .pre .1 .1 .at) (c .before .before .before .before .before .before .if1 .left) in
-    (
+    let v = choice-view (in-read t (c .before .before .before .before .before .before .before)) (s .pre .1 .1 .at) (c .before .before .before .before .before .before .if1 .left) in (
       omega (arith, s .pre .0, root (s .pre .1 .1 .at) .rows, root (s .pre .1 .1 .at) .least),
       (s .pre .1 .0, record { tree = v .left; at = choice-left (in-read t (c .before .before .before .before .before .before .before)) (s .pre .1 .1 .at) (c .before .before .before .before .before .before .if1 .left) (in-right t (c .before .before)) (c .wide .ensures) }),
     )
@@ -158,16 +157,15 @@ read-in-same-length-2 t c = search needs
 -- src/lib.rt:103:9
 read-in-returns-4 : (t : ℕ) → read-in-lts.Need-returns-4 (calls-read-in t) (read-in-at t) read-in.Post
 read-in-returns-4 t c = (
-      c .before .before .before .read-leaf2 .ensures .0,
-      λ u r l a. choice-stop readLeft readIn left-mono (λ _ _. refl) _ u (in-read t (c .before .before .before .before .before .before .before .before .before .before .before)) a (c .before .before .before .before .before .before .before .before .before .before .if1 .left) (in-right t (c .before .before .before .before .before .before)) (c .before .before .before .before .wide .ensures) (c .if2 .taken) (λ q b. c .before .before .before .read-leaf2 .ensures .1 u q l b),
-    )
+  c .before .before .before .read-leaf2 .ensures .0,
+  λ u r l a. choice-stop readLeft readIn left-mono (λ _ _. refl) _ u (in-read t (c .before .before .before .before .before .before .before .before .before .before .before)) a (c .before .before .before .before .before .before .before .before .before .before .if1 .left) (in-right t (c .before .before .before .before .before .before)) (c .before .before .before .before .wide .ensures) (c .if2 .taken) (λ q b. c .before .before .before .read-leaf2 .ensures .1 u q l b),
+)
 
 -- src/lib.rt:105:5
 read-in-read-in-requires : (t : ℕ) → read-in-lts.Need-read-in-requires (calls-read-in t) (read-in-at t) read-in.Post
 read-in-read-in-requires t c κs = let s = c .before .before .before .before .before .before .before .before .before .before .before .before .before .before .before .before .before .before .before .before in
     let v = choice-view (in-read t (c .before .before .before .before .before .before .before .before .before .before .before .before)) (s .pre .1 .1 .at) (c .before .before .before .before .before .before .before .before .before .before .before .if1 .left) in
-    let e = c .before .before .before .before .read-leaf2 .ensures .0 .steady in
-    (
+    let e = c .before .before .before .before .read-leaf2 .ensures .0 .steady in (
       omega (arith, s .pre .0, e .fewer, root (s .pre .1 .1 .at) .rows, root (v .atRight) .rows, v .rows, v .leastLeft, found-size (in-read t (c .before .before .before .before .before .before .before .before .before .before .before .before)) (s .pre .1 .1 .at)),
       (given-steady (s .pre .1 .0) e (c .before .before .before .before .read-leaf2 .kept .1 .1 .1 .0), record { tree = v .right; at = v .atRight }),
     )
@@ -178,11 +176,10 @@ read-in-same-length-3 t c = search needs
 
 -- src/lib.rt:73:1
 read-in-returns-5 : (t : ℕ) → read-in-lts.Need-returns-5 (calls-read-in t) (read-in-at t) read-in.Post
-read-in-returns-5 t c = let e = c .before .before .before .before .before .before .before .read-leaf2 .ensures .0 .steady in
-    (
-      record { steady = steady-more e (c .before .before .read-in .ensures .0 .steady); least = c .before .before .read-in .ensures .0 .least },
-      λ u r l a. choice-then readLeft readIn left-mono (λ _ _. refl) _ u (in-read t (c .before .before .before .before .before .before .before .before .before .before .before .before .before .before .before)) a (c .before .before .before .before .before .before .before .before .before .before .before .before .before .before .if1 .left) (in-right t (c .before .before .before .before .before .before .before .before .before .before)) (c .before .before .before .before .before .before .before .before .wide .ensures) (λ q b. rw (c .before .before .before .before .if2 .left) at (c .before .before .before .before .before .before .before .read-leaf2 .ensures .1 u q l b)) (λ q b. c .before .before .read-in .ensures .1 u q l b),
-    )
+read-in-returns-5 t c = let e = c .before .before .before .before .before .before .before .read-leaf2 .ensures .0 .steady in (
+  record { steady = steady-more e (c .before .before .read-in .ensures .0 .steady); least = c .before .before .read-in .ensures .0 .least },
+  λ u r l a. choice-then readLeft readIn left-mono (λ _ _. refl) _ u (in-read t (c .before .before .before .before .before .before .before .before .before .before .before .before .before .before .before)) a (c .before .before .before .before .before .before .before .before .before .before .before .before .before .before .if1 .left) (in-right t (c .before .before .before .before .before .before .before .before .before .before)) (c .before .before .before .before .before .before .before .before .wide .ensures) (λ q b. rw (c .before .before .before .before .if2 .left) at (c .before .before .before .before .before .before .before .read-leaf2 .ensures .1 u q l b)) (λ q b. c .before .before .read-in .ensures .1 u q l b),
+)
 
 -- src/lib.rt:52:9
 read-leaf-row-at-requires : (t : ℕ) → read-leaf-lts.Need-row-at-requires (calls-read-leaf t) (read-leaf-at t) read-leaf.Post
@@ -261,9 +258,9 @@ read-leaf-same-length-2 t c = search needs
 -- src/lib.rt:67:9
 read-leaf-returns-5 : (t : ℕ) → read-leaf-lts.Need-returns-5 (calls-read-leaf t) (read-leaf-at t) read-leaf.Post
 read-leaf-returns-5 t c = (
-      record { steady = steady-none _; least = omega (arith, c .if3 .taken) },
-      λ u r l a. leaf-ident _ (leaf-read t (c .before .before .before .before .before .before .before .before .before .before .before)) a (c .before .before .before .before .before .before .before .before .before .if2 .left) (name-marked l _ _ _ (leaf-first t (c .before .before)) _ refl (c .if3 .taken)),
-    )
+  record { steady = steady-none _; least = omega (arith, c .if3 .taken) },
+  λ u r l a. leaf-ident _ (leaf-read t (c .before .before .before .before .before .before .before .before .before .before .before)) a (c .before .before .before .before .before .before .before .before .before .if2 .left) (name-marked l _ _ _ (leaf-first t (c .before .before)) _ refl (c .if3 .taken)),
+)
 
 -- src/lib.rt:69:5
 read-leaf-read-rule-requires : (t : ℕ) → read-leaf-lts.Need-read-rule-requires (calls-read-leaf t) (read-leaf-at t) read-leaf.Post
@@ -277,9 +274,9 @@ read-leaf-same-length-3 t c = search needs
 -- src/lib.rt:41:1
 read-leaf-returns-6 : (t : ℕ) → read-leaf-lts.Need-returns-6 (calls-read-leaf t) (read-leaf-at t) read-leaf.Post
 read-leaf-returns-6 t c = (
-      c .before .before .read-rule .ensures .0,
-      λ u r l a. leaf-ident _ (leaf-read t (c .before .before .before .before .before .before .before .before .before .before .before .before .before .before .before)) a (c .before .before .before .before .before .before .before .before .before .before .before .before .before .if2 .left) (c .before .before .read-rule .ensures .1 u _ l (leaf-first t (c .before .before .before .before .before .before))),
-    )
+  c .before .before .read-rule .ensures .0,
+  λ u r l a. leaf-ident _ (leaf-read t (c .before .before .before .before .before .before .before .before .before .before .before .before .before .before .before)) a (c .before .before .before .before .before .before .before .before .before .before .before .before .before .if2 .left) (c .before .before .read-rule .ensures .1 u _ l (leaf-first t (c .before .before .before .before .before .before))),
+)
 
 -- src/lib.rt:32:14
 read-rule-mul-at : (t : ℕ) → read-rule-lts.Need-mul-at (calls-read-rule t) (read-rule-at t) read-rule.Post
@@ -326,8 +323,7 @@ read-rule-read-in-requires t c κs = let s = c .before .before .before .before .
     let b : i * 4 + 1 < length (s .args .marks .now) = omega (arith, h, g .hashed .long) in
     let r = rule-there (g .lent) i h in
     let a = rule-stands (g .lent) i r h (g .ended) in
-    let e = c .before .wide .ensures in
-    (
+    let e = c .before .wide .ensures in (
       omega (arith, s .pre .0, e, zeros-set (s .args .marks .now) (i * 4 + 1) 1 b, ap isZero (s .pre .1 .1 .1), root a .rows, root a .most, root a .inside, s .good .1 .0 .0, ap (sizeAt (s .args .rows .now)) (ap (λ (n : ℕ). n - 1) e)),
       (given-steady g (steady-set (s .args .marks .now) i 1 b (omega arith)) (length-set (s .args .marks .now) (i * 4 + 1) 1), record { tree = r .rule .body; at = rw e a }),
     )
@@ -359,8 +355,7 @@ read-rule-returns t c = let s = c .before .before .before .before .before .befor
     let e = c .before .before .before .before .wide .ensures in
     let b : i * 4 + 1 < length m = omega (arith, h, g .hashed .long) in
     let ran = c .before .before .read-in .ensures .0 in
-    let b₂ : i * 4 + 1 < length (c .before .before .read-in .last .1 .1 .1 .0) = omega (arith, c .before .before .read-in .kept .1 .1 .1 .0, length-set m (i * 4 + 1) 1) in
-    (
+    let b₂ : i * 4 + 1 < length (c .before .before .read-in .last .1 .1 .1 .0) = omega (arith, c .before .before .read-in .kept .1 .1 .1 .0, length-set m (i * 4 + 1) 1) in (
       record { steady = steady-more (steady-more (steady-set m i 1 b (omega arith)) (ran .steady)) (steady-set _ i _ b₂ (ran .least)); least = ran .least },
       λ u x l f. let r = rule-there l i h in name-read l _ m x f r b b₂ (s .pre .1 .1 .1) (c .before .before .read-in .ensures .1 u (r .rule .body) l (rw e (rule-stands l i r h (g .ended)))),
     )
