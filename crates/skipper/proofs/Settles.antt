@@ -210,17 +210,17 @@ pub record RowsRead (rules rows : List ℕ) (text : Bytes) (m m′ : List ℕ) (
 same-size : {w : List ℕ} {i : ℕ} {q r : Expr Span} → At w i q → At w i r → size q ≡ size r
 same-size a b = sym (root a .rows) ∙ root b .rows
 
+tree-last : {rows : List ℕ} {from end : ℕ} → TreeRows rows from end → 1 ≤ end
+tree-last tr = omega (arith, tr .rows, root (tr .at) .least)
+
+pub rows-begin : {rules rows : List ℕ} {text : Bytes} {m : List ℕ} {from end : ℕ} → TreeRows rows from end → RowsRead rules rows text m m from end from
+rows-begin {text = text} {m = m} {from = from} tr = record { low = omega arith; high = omega (arith, tr .rows); steady = steady-none m; long = refl; settled = λ t l k id. rows-start text (resolveTable text t) _ (marksOf (resolveTable text t) m) from k }
+
 module _ {rules rows : List ℕ} {text : Bytes} {m m₁ : List ℕ} {from end i : ℕ} (tr : TreeRows rows from end) where
-  pub tree-last : 1 ≤ end
-  tree-last = omega (arith, tr .rows, root (tr .at) .least)
-
-  pub rows-begin : RowsRead rules rows text m m from end from
-  rows-begin = record { low = omega arith; high = omega (arith, tr .rows); steady = steady-none m; long = refl; settled = λ t l k id. rows-start text (resolveTable text t) rows (marksOf (resolveTable text t) m) from k }
-
   module _ (inv : RowsRead rules rows text m m₁ from end i) (lt : i < end) where
     -- row i is a root of the tree that ends there
     pub row-in : (r : Expr Span) → At rows (end - 1) r → Within text rows i r
-    row-in r a = row-within text r a (omega (arith, same-size (tr .at) a, tr .rows, inv .low, tree-last)) (omega (arith, tree-last))
+    row-in r a = row-within text r a (omega (arith, same-size (tr .at) a, tr .rows, inv .low, tree-last tr)) (omega (arith, tree-last tr))
 
     module _ {m₂ : List ℕ} {v : ℕ} (h : (t : Table Span) (q : Expr Span) → Lent rules rows t → At rows i q → LoopsOf text t m₁ m₂ v (λ look. openAt look (resolve text q))) where
       pub rows-met : (t : Table Span) (r : Expr Span) → Lent rules rows t → At rows (end - 1) r → v ≡ 1 → LoopsOf text t m m₂ v (λ look. anyNode (openAt look) (resolve text r))

@@ -105,8 +105,7 @@ read-leaves-sub-read-leaves t c = let v = choice-view (here t (c .before .before
 read-leaves-read-leaves-requires : (t : ℕ) → read-leaves-lts.Need-read-leaves-requires (calls-read-leaves t) (read-leaves-at t) read-leaves.Post
 read-leaves-read-leaves-requires t c κs = let s = c .before .before .before .before .before .before .before .before .before .before .before .before .before .before .before in
     let v = choice-view (here t (c .before .before .before .before .before .before .before)) (s .pre .1 .1 .at) (c .before .before .before .before .before .before .if1 .left) in
-    let a = choice-left (here t (c .before .before .before .before .before .before .before)) (s .pre .1 .1 .at) (c .before .before .before .before .before .before .if1 .left) (right t (c .before .before)) (c .wide .ensures) in
-    (
+    let a = choice-left (here t (c .before .before .before .before .before .before .before)) (s .pre .1 .1 .at) (c .before .before .before .before .before .before .if1 .left) (right t (c .before .before)) (c .wide .ensures) in (
       omega (arith, s .pre .0, root a .rows, root (s .pre .1 .1 .at) .rows, v .rows, found-size (here t (c .before .before .before .before .before .before .before)) (s .pre .1 .1 .at)),
       (s .pre .1 .0, record { tree = v .left; at = a }),
     )
@@ -118,16 +117,15 @@ read-leaves-same-length-2 t c = search needs
 -- src/lib.rt:149:9
 read-leaves-returns-4 : (t : ℕ) → read-leaves-lts.Need-returns-4 (calls-read-leaves t) (read-leaves-at t) read-leaves.Post
 read-leaves-returns-4 t c = (
-      c .before .before .before .read-leaves .ensures .0,
-      λ u r l a. choice-stop (λ look e. readIn look (rotate e)) (λ look e. readIn look (rotate e)) (λ e. in-mono (rotate e)) rotated-step _ u (here t (c .before .before .before .before .before .before .before .before .before .before .before)) a (c .before .before .before .before .before .before .before .before .before .before .if1 .left) (right t (c .before .before .before .before .before .before)) (c .before .before .before .before .wide .ensures) (c .if2 .taken) (λ q b. c .before .before .before .read-leaves .ensures .1 u q l b),
-    )
+  c .before .before .before .read-leaves .ensures .0,
+  λ u r l a. choice-stop (λ look e. readIn look (rotate e)) (λ look e. readIn look (rotate e)) (λ e. in-mono (rotate e)) rotated-step _ u (here t (c .before .before .before .before .before .before .before .before .before .before .before)) a (c .before .before .before .before .before .before .before .before .before .before .if1 .left) (right t (c .before .before .before .before .before .before)) (c .before .before .before .before .wide .ensures) (c .if2 .taken) (λ q b. c .before .before .before .read-leaves .ensures .1 u q l b),
+)
 
 -- src/lib.rt:151:5
 read-leaves-read-leaves-requires-2 : (t : ℕ) → read-leaves-lts.Need-read-leaves-requires-2 (calls-read-leaves t) (read-leaves-at t) read-leaves.Post
 read-leaves-read-leaves-requires-2 t c κs = let s = c .before .before .before .before .before .before .before .before .before .before .before .before .before .before .before .before .before .before .before .before in
     let v = choice-view (here t (c .before .before .before .before .before .before .before .before .before .before .before .before)) (s .pre .1 .1 .at) (c .before .before .before .before .before .before .before .before .before .before .before .if1 .left) in
-    let e = c .before .before .before .before .read-leaves .ensures .0 .steady in
-    (
+    let e = c .before .before .before .before .read-leaves .ensures .0 .steady in (
       omega (arith, s .pre .0, root (s .pre .1 .1 .at) .rows, root (v .atRight) .rows, v .rows, v .leastLeft, found-size (here t (c .before .before .before .before .before .before .before .before .before .before .before .before)) (s .pre .1 .1 .at)),
       (given-steady (s .pre .1 .0) e (c .before .before .before .before .read-leaves .kept .1 .1 .1 .0), record { tree = v .right; at = v .atRight }),
     )
@@ -138,11 +136,10 @@ read-leaves-same-length-3 t c = search needs
 
 -- src/lib.rt:119:1
 read-leaves-returns-5 : (t : ℕ) → read-leaves-lts.Need-returns-5 (calls-read-leaves t) (read-leaves-at t) read-leaves.Post
-read-leaves-returns-5 t c = let e = c .before .before .before .before .before .before .before .read-leaves .ensures .0 .steady in
-    (
-      record { steady = steady-more e (c .before .before .read-leaves2 .ensures .0 .steady); least = c .before .before .read-leaves2 .ensures .0 .least },
-      λ u r l a. choice-then (λ look e. readIn look (rotate e)) (λ look e. readIn look (rotate e)) (λ e. in-mono (rotate e)) rotated-step _ u (here t (c .before .before .before .before .before .before .before .before .before .before .before .before .before .before .before)) a (c .before .before .before .before .before .before .before .before .before .before .before .before .before .before .if1 .left) (right t (c .before .before .before .before .before .before .before .before .before .before)) (c .before .before .before .before .before .before .before .before .wide .ensures) (λ q b. rw (c .before .before .before .before .if2 .left) at (c .before .before .before .before .before .before .before .read-leaves .ensures .1 u q l b)) (λ q b. c .before .before .read-leaves2 .ensures .1 u q l b),
-    )
+read-leaves-returns-5 t c = let e = c .before .before .before .before .before .before .before .read-leaves .ensures .0 .steady in (
+  record { steady = steady-more e (c .before .before .read-leaves2 .ensures .0 .steady); least = c .before .before .read-leaves2 .ensures .0 .least },
+  λ u r l a. choice-then (λ look e. readIn look (rotate e)) (λ look e. readIn look (rotate e)) (λ e. in-mono (rotate e)) rotated-step _ u (here t (c .before .before .before .before .before .before .before .before .before .before .before .before .before .before .before)) a (c .before .before .before .before .before .before .before .before .before .before .before .before .before .before .if1 .left) (right t (c .before .before .before .before .before .before .before .before .before .before)) (c .before .before .before .before .before .before .before .before .wide .ensures) (λ q b. rw (c .before .before .before .before .if2 .left) at (c .before .before .before .before .before .before .before .read-leaves .ensures .1 u q l b)) (λ q b. c .before .before .read-leaves2 .ensures .1 u q l b),
+)
 
 pub +read-leaves-spec : {M : Type 1} → statement M
 +read-leaves-spec = close μ-read-leaves λ t. read-leaves-lts.spec (calls-read-leaves t)

@@ -56,9 +56,9 @@ enum-told-2 c = search needs
 -- src/lib.rt:232:9
 returns-3 : tie.Need-returns-3
 returns-3 c = (
-      record { steady = steady-none _; least = omega arith },
-      λ u r l a. loop-nothing (c .before .before .before .before .before .before .before .before .before .before .before .before .args .text .now) (here (c .before .before .before .before)) a (c .before .before .before .if1 .left) (c .before .before .in-loop .ensures _ (rep-view (c .before .before .before .before .before .before .before .before .before .before .before .before .args .text .now) (here (c .before .before .before .before)) a (c .before .before .before .if1 .left) .at)) (c .enum-told2 .given .1) (λ e. omega arith),
-    )
+  record { steady = steady-none _; least = omega arith },
+  λ u r l a. loop-nothing (c .before .before .before .before .before .before .before .before .before .before .before .before .args .text .now) (here (c .before .before .before .before)) a (c .before .before .before .if1 .left) (c .before .before .in-loop .ensures _ (rep-view (c .before .before .before .before .before .before .before .before .before .before .before .before .args .text .now) (here (c .before .before .before .before)) a (c .before .before .before .if1 .left) .at)) (c .enum-told2 .given .1) (λ e. omega arith),
+)
 
 -- src/lib.rt:234:5
 read-leaves-requires : tie.Need-read-leaves-requires
@@ -72,11 +72,10 @@ same-length c = search needs
 
 -- src/lib.rt:213:1
 returns-4 : tie.Need-returns-4
-returns-4 c = let s = c .before .before .before .before .before .before .before .before .before .before .before .before .before .before .before .before .before in
-    (
-      c .before .before .read-leaves .ensures .0,
-      λ u r l a. loop-list (s .args .text .now) (here (c .before .before .before .before .before .before .before .before .before)) a (c .before .before .before .before .before .before .before .before .if1 .left) (c .before .before .before .before .before .before .before .in-loop .ensures _ (rep-view (s .args .text .now) (here (c .before .before .before .before .before .before .before .before .before)) a (c .before .before .before .before .before .before .before .before .if1 .left) .at)) (c .before .before .before .before .before .e .given .1) (c .before .before .read-leaves .ensures .0 .least) (λ q b. c .before .before .read-leaves .ensures .1 u q l b),
-    )
+returns-4 c = let s = c .before .before .before .before .before .before .before .before .before .before .before .before .before .before .before .before .before in (
+  c .before .before .read-leaves .ensures .0,
+  λ u r l a. loop-list (s .args .text .now) (here (c .before .before .before .before .before .before .before .before .before)) a (c .before .before .before .before .before .before .before .before .if1 .left) (c .before .before .before .before .before .before .before .in-loop .ensures _ (rep-view (s .args .text .now) (here (c .before .before .before .before .before .before .before .before .before)) a (c .before .before .before .before .before .before .before .before .if1 .left) .at)) (c .before .before .before .before .before .e .given .1) (c .before .before .read-leaves .ensures .0 .least) (λ q b. c .before .before .read-leaves .ensures .1 u q l b),
+)
 
 pub read-loop-spec : {M : Type 1} → statement M
 read-loop-spec =

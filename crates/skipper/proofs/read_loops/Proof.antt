@@ -34,9 +34,9 @@ same-length c = c .before .before .before .read-loop .kept .1 .1 .1 .0 ∙ c .be
 -- src/lib.rt:255:13
 returns : tie.Need-returns Inv-loop μ-loop
 returns c = (
-      record { steady = steady-more (c .before .before .before .before .before .before .loop .inv .steady) (c .before .before .before .read-loop .ensures .0 .steady); least = omega arith },
-      λ u r l a. rw (c .if1 .taken) at (rows-met (c .before .before .before .before .before .before .before .before .before .before .before .pre .1) (c .before .before .before .before .before .before .loop .inv) (c .before .before .before .before .before .loop-test .taken) (c .before .before .before .read-loop .ensures .1) u r l a (c .if1 .taken)),
-    )
+  record { steady = steady-more (c .before .before .before .before .before .before .loop .inv .steady) (c .before .before .before .read-loop .ensures .0 .steady); least = omega arith },
+  λ u r l a. rw (c .if1 .taken) at (rows-met (c .before .before .before .before .before .before .before .before .before .before .before .pre .1) (c .before .before .before .before .before .before .loop .inv) (c .before .before .before .before .before .loop-test .taken) (c .before .before .before .read-loop .ensures .1) u r l a (c .if1 .taken)),
+)
 
 -- src/lib.rt:257:9
 add-i : tie.Need-add-i Inv-loop μ-loop
