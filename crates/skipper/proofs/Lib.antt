@@ -4,3 +4,5 @@ pub mod Rules
 pub mod Leaf
 pub mod Looping
 pub mod Settles
+pub mod Rotation
+pub mod Tables

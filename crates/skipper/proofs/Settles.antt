@@ -24,7 +24,7 @@ use Rattle.skipper.specs.Lends.{marksOf, ReadsOf, Lent, Steady}
 use Rattle.skipper.specs.Loops.{OverAt, LoopAnswer, TreeRows, openIn, openAt, Idle, Settled, LoopsOf}
 use Rattle.skipper.specs.declared.Loop.{Loop}
 use Rattle.skipper.specs.declared.Loop.the-variants.{Over, Nothing}
-use Rattle.skipper.proofs.Memories.{in-mono, marks-grow, grows-none, grows-more}
+use Rattle.skipper.proofs.Memories.{Below, in-mono, marks-grow, grows-none, grows-more}
 use Rattle.skipper.proofs.Rules.{steady-none, steady-more}
 
 idle-opened : {st : Marks} → Idle st → Opened st []
@@ -61,7 +61,7 @@ loops-read {s} {t} {m} {m′} {a} x l h =
     more : 1 ≤ a → (a ≡ 1 → ⊥) → 2 ≤ a
     more l n = omega arith
 
-loops-none : {s : Bytes} {t : Table Span} {m : List ℕ} {a : ℕ} → (a ≡ 1 → ⊥) → LoopsOf s t m m a (λ look. false)
+pub loops-none : {s : Bytes} {t : Table Span} {m : List ℕ} {a : ℕ} → (a ≡ 1 → ⊥) → LoopsOf s t m m a (λ look. false)
 loops-none n = record { met = λ k i e. absurd (n e); settled = λ k i e. record { known = k; grows = grows-none; no = refl } }
 
 loops-at : {s : Bytes} {t : Table Span} {m m′ : List ℕ} {a : ℕ} (e : E) (o : Option E) → loopOver e ≡ o → LoopsOf s t m m′ a (λ look. openIn look o) → LoopsOf s t m m′ a (λ look. openAt look e)
@@ -99,15 +99,15 @@ module _ (s : Bytes) {w : List ℕ} {i k x y n : ℕ} {r : Expr Span} (f : Found
       loop-list e l g = let o = loop-over e in loops-at (resolve s r) (some (resolve s (o .tree))) (rep-is ∙ o .is) (loops-read (resolve s (o .tree)) l (g (o .tree) (o .at)))
 
 -- what is settled stays settled
-pub open-mono : {st st′ : Marks} (e : E) → Grows st st′ → openAt (byMarks st) e ≡ false → openAt (byMarks st′) e ≡ false
+pub open-mono : (look look′ : Bytes → Reading) → ((x : Bytes) → Below (look x) (look′ x)) → (e : E) → openAt look e ≡ false → openAt look′ e ≡ false
 unfolding openAt
-open-mono {st} {st′} e g = go (loopOver e)
+open-mono look look′ m e = go (loopOver e)
   where
-    go : (o : Option E) → openIn (byMarks st) o ≡ false → openIn (byMarks st′) o ≡ false
+    go : (o : Option E) → openIn look o ≡ false → openIn look′ o ≡ false
     go none h = refl
     go (some x) h =
-        let b : 2 ≤ markOf (readIn (byMarks st) (rotate x)) = not-again (readIn (byMarks st) (rotate x)) h in
-        again-not (readIn (byMarks st′) (rotate x)) (rw (in-mono (rotate x) (byMarks st) (byMarks st′) (marks-grow g) b) b)
+        let b : 2 ≤ markOf (readIn look (rotate x)) = not-again (readIn look (rotate x)) h in
+        again-not (readIn look′ (rotate x)) (rw (in-mono (rotate x) look look′ m b) b)
 
 -- The rows of a tree
 
@@ -194,7 +194,7 @@ module _ (s : Bytes) (t : Table Bytes) (w : List ℕ) (st : Marks) (from : ℕ) 
     where
       go : (j : ℕ) (p : Expr Span) → from ≤ j → At w j p → j < i + 1 → Dec (i ≤ j) → openAt (byMarks st₂) (resolve s p) ≡ false
       go j p l b n (yes e) = let z : j ≡ i = omega arith in f p (rw z at b) .no
-      go j p l b n (no e) = open-mono (resolve s p) (f q a .grows) (h .no j p l (omega arith) b)
+      go j p l b n (no e) = open-mono (byMarks st₁) (byMarks st₂) (marks-grow (f q a .grows)) (resolve s p) (h .no j p l (omega arith) b)
 
   pub rows-done : {st′ : Marks} {end : ℕ} (r : Expr Span) → RowsSettled s t w st st′ from end → At w (end - 1) r → from + size r ≡ end → Settled t st st′ (λ look. anyNode (openAt look) (resolve s r))
   rows-done {st′} {end} r h a e = record { known = h .known; grows = h .grows; no = rows-none s (byMarks st′) r a (λ j q l n b. h .no j q (omega (arith, root a .least)) (omega (arith, root a .least)) b) }

@@ -2,3 +2,4 @@
 pub mod Memory
 pub mod Lends
 pub mod Loops
+pub mod Lists

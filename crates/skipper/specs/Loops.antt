@@ -1,16 +1,16 @@
 -- Loops (!e ~ ANY)* of a table, and what reading their lists comes to. Assumes nothing.
 use mathlib.Core.Path.{_≡_}
-use mathlib.Core.Bool.{Bool, true, false}
+use mathlib.Core.Bool.{Bool, true, false, _&&_}
 use mathlib.Core.List.{List, []}
 use mathlib.Core.Option.{Option, none, some}
 use Prim.Native.Nat.{ℕ, _+_, _-_}
 use Rattle.grammar.specs.Basic.{Bytes}
-use Rattle.grammar.specs.Tree.{Expr, E, size}
+use Rattle.grammar.specs.Tree.{Expr, E, size, anyNode}
 use Rattle.grammar.specs.Rows.{Span}
 use Rattle.grammar.specs.Text.{resolve}
-use Rattle.grammar.specs.Table.{Table, resolveTable}
+use Rattle.grammar.specs.Table.{Table, Rule, resolveTable}
 use Rattle.grammar.specs.Lists.{Reading, readIn, loopOver, isAgain}
-use Rattle.grammar.specs.Steps.{rotate}
+use Rattle.grammar.specs.Steps.{isAtomic, rotate}
 use Rattle.rows.specs.Rows.{At}
 use Rattle.skipper.specs.Memory.{Marks, Known, Grows, nameList, byMarks}
 use Rattle.skipper.specs.Lends.{marksOf}
@@ -41,6 +41,10 @@ openIn look (some x) = isAgain (readIn look (rotate x))
 unfoldable pub openAt : (Bytes → Reading) → E → Bool
 unfolding loopOver rotate
 openAt look e = openIn look (loopOver e)
+
+-- such a loop in a rule: "Atomic only"
+abbrev pub ruleOpen : (Bytes → Reading) → Rule Bytes → Bool
+ruleOpen look r = isAtomic (r .type) && anyNode (openAt look) (r .body)
 
 -- no rule is being read
 abbrev pub Idle : Marks → Type 0

@@ -3,18 +3,20 @@
 ghost use mathlib.Core.Path.{_≡_};
 ghost use mathlib.Core.List.{List};
 ghost use Prim.Native.Nat.{ℕ, _+_, _-_, _*_, _/_, _≤_, _<_};
-ghost use lib.ListN.{length, getD};
-ghost use Rattle.grammar.specs.Basic.{Bytes};
+ghost use mathlib.Core.Option.{some};
+ghost use lib.ListN.{length, getD, getElem?};
+ghost use Rattle.grammar.specs.Basic.{Bytes, any};
 ghost use Rattle.grammar.specs.Tree.{Expr, Rep, un, anyNode, asNegPred};
 ghost use Rattle.grammar.specs.Rows.{Span};
 ghost use Rattle.grammar.specs.Text.{bytesAt, resolve};
-ghost use Rattle.grammar.specs.Table.{Table};
+ghost use Rattle.grammar.specs.Table.{Table, Rule, resolveRule, resolveTable};
 ghost use Rattle.grammar.specs.Lists.{readLeft, readIn, loopOver};
 ghost use Rattle.grammar.specs.Steps.{rotate};
 ghost use Rattle.rows.specs.Rows.{Inside, At, Stands};
-ghost use Rattle.names.specs.Names.{First};
+ghost use Rattle.names.specs.Names.{First, marked};
 ghost use Rattle.skipper.specs.Lends.{Given, Lent, Ran, ReadsOf};
-ghost use Rattle.skipper.specs.Loops.{LoopAnswer, TreeRows, openAt, LoopsOf};
+ghost use Rattle.skipper.specs.Loops.{LoopAnswer, TreeRows, openAt, ruleOpen, LoopsOf};
+ghost use Rattle.skipper.specs.Lists.{ListsAnswer};
 use names::Found;
 use rows::Lookup;
 use rows::wide;
@@ -29,6 +31,12 @@ const LIST: u32 = 3;
 pub enum Loop {
     Over(usize),
     Nothing,
+}
+
+// Whether every list could be read.
+pub enum Readings {
+    Read,
+    Again,
 }
 
 // Reads rule i, which was not read.
@@ -257,4 +265,64 @@ pub fn read_loops(
         i += 1;
     }
     LIST
+}
+
+// Reads the loops of rule k, if it is Atomic.
+pub fn read_atomic(rules: &[u32], rows: &[u32], text: &[u8], marks: &mut [u32], k: usize) -> u32
+    requires { ⌜ Given (now rules) (now rows) (now text) (now marks) ⌝ }
+    requires { ⌜ k < length (now rules) / 4 ⌝ }
+    ensures { λ a. ⌜ Ran (now (marks .entry)) (now (marks .exit)) a ⌝ }
+    ensures { λ a. ⌜ ((t : Table Span) (r : Rule Span) → Lent (now (rules .entry)) (now (rows .entry)) t → getElem? t k ≡ some r → LoopsOf (now (text .entry)) t (now (marks .entry)) (now (marks .exit)) a (λ look. ruleOpen look (resolveRule (now (text .entry)) r))) ⌝ }
+{
+    let at = k * 4;
+    if rules[at + 2] != 2 {
+        return LIST;
+    }
+    let end = wide(marks[at + 3]);
+    read_loops(rules, rows, text, marks, end - wide(rules[at + 3]), end)
+}
+
+// Reads the loops of all Atomic rules.
+pub fn read_rules(rules: &[u32], rows: &[u32], text: &[u8], marks: &mut [u32]) -> u32
+    requires { ⌜ Given (now rules) (now rows) (now text) (now marks) ⌝ }
+    ensures { λ a. ⌜ Ran (now (marks .entry)) (now (marks .exit)) a ⌝ }
+    ensures { λ a. ⌜ ((t : Table Span) → Lent (now (rules .entry)) (now (rows .entry)) t → LoopsOf (now (text .entry)) t (now (marks .entry)) (now (marks .exit)) a (λ look. any (ruleOpen look) (resolveTable (now (text .entry)) t))) ⌝ }
+{
+    let count = rules.len() / 4;
+    let mut k = 0;
+    while k < count {
+        let a = read_atomic(rules, rows, text, marks, k);
+        if a == AGAIN {
+            return AGAIN;
+        }
+        k += 1;
+    }
+    LIST
+}
+
+// Clears the memories of the first `count` rules.
+pub fn forget(marks: &mut [u32], count: usize)
+    requires { ⌜ count * 4 ≤ length (now marks) ⌝ }
+    ensures { λ _. ⌜ now (marks .exit) ≡ marked (λ _. 0) 1 count (now (marks .entry)) ⌝ }
+{
+    let mut i = 0;
+    while i < count {
+        marks[i * 4 + 1] = 0;
+        i += 1;
+    }
+}
+
+// Reads every skip list of a table as it was given. Again is refusal 7.
+pub fn read_lists(rules: &[u32], rows: &[u32], text: &[u8], marks: &mut [u32]) -> Readings
+    requires { ⌜ Given (now rules) (now rows) (now text) (now marks) ⌝ }
+    ensures { λ _. ⌜ Given (now (rules .entry)) (now (rows .entry)) (now (text .entry)) (now (marks .exit)) ⌝ }
+    ensures { λ a. ⌜ ((t : Table Span) → Lent (now (rules .entry)) (now (rows .entry)) t → ListsAnswer a (resolveTable (now (text .entry)) t) (now (marks .exit))) ⌝ }
+{
+    forget(marks, rules.len() / 4);
+    let a = read_rules(rules, rows, text, marks);
+    if a == AGAIN {
+        Readings::Again
+    } else {
+        Readings::Read
+    }
 }
