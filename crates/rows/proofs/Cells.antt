@@ -9,14 +9,18 @@ use borrow.Author.Tests.{eqb-true, eqb-false}
 use lib.Dec.{eqb}
 use lib.ListN.{length, getD, length-append, length-map}
 use lib.Seq.{ext-getD}
-use Rattle.grammar.specs.Basic.{Bytes}
+use Rattle.grammar.specs.Basic.{Bytes, holds, bytes-discrete, sameBytes}
 use Rattle.grammar.specs.Tree as tree
-use Rattle.grammar.specs.Tree.{Head, Str, Insens, Ident, Fixed, Range, PeekSlice, PeekFrom, Un, PosPred, NegPred, Opt, Rep, RepOnce, Push, RestoreOnErr, RepExact, RepMin, RepMax, RepMinMax, Bin, Seq, Choice, Expr, lit, fixed, skip, un, bin, E, litKind, fixedHead, unHead, binKind, size}
+use Rattle.grammar.specs.Tree.{Head, Str, Insens, Ident, Fixed, Range, PeekSlice, PeekFrom, Un, PosPred, NegPred, Opt, Rep, RepOnce, Push, RestoreOnErr, RepExact, RepMin, RepMax, RepMinMax, Bin, Seq, Choice, Expr, lit, fixed, skip, un, bin, E, litKind, fixedHead, unHead, binKind, size, same-discrete, same}
 use Rattle.grammar.specs.Rows.{Span, strRows, flat}
 use Rattle.grammar.specs.Text.{bytesAt, resolve}
 use Rattle.rows.specs.declared.Shape.{Shape}
 use Rattle.rows.specs.declared.Shape.the-variants.{Lit, Num, One, Two, Skips}
-use Rattle.rows.specs.Rows.{kindAt, xAt, yAt, At, Cell, cell, shapeOf, cellBy, cellOf, cellAt, Tells, Inside}
+use Rattle.rows.specs.Rows.{kindAt, xAt, yAt, At, Cell, cell, shapeOf, cellBy, cellOf, cellAt, Tells, LitInside, Inside}
+use types.Run.{OneOf}
+use denote.Enum.Declared.{tagOf}
+use mathlib.Core.Logic.{⊎-elim}
+use Rattle.rows.proofs.Shape as shape
 use Rattle.rows.proofs.Laws.{headOf, length-flat, flat-at, Found, length-part}
 
 -- ---- the shapes of the kinds, and the tags back from their words
@@ -55,6 +59,12 @@ bin-shape Choice = refl
 pub skip-shape : shapeOf 17 ≡ Skips
 unfolding shapeOf
 skip-shape = refl
+
+-- what the else of `if let Shape::Lit` knows: the shape is one of the others
+pub not-lit : (s : Shape) → OneOf (1 ∷ 2 ∷ 3 ∷ 4 ∷ []) (tagOf shape.the-type s) → s ≡ Lit → ⊥
+not-lit s o e =
+    let p : OneOf (1 ∷ 2 ∷ 3 ∷ 4 ∷ []) 0 = subst (λ (s : Shape). OneOf (1 ∷ 2 ∷ 3 ∷ 4 ∷ []) (tagOf shape.the-type s)) e o in
+    ⊎-elim (λ e. omega arith) (λ q. ⊎-elim (λ e. omega arith) (λ q. ⊎-elim (λ e. omega arith) (λ e. omega arith) q) q) p
 
 abbrev litFrom : ℕ → tree.Lit
 litFrom k = cond (eqb k 0) Str (cond (eqb k 1) Insens Ident)
@@ -311,6 +321,21 @@ tells-eqb x y = go (eqb x y) refl
     go true e = eqb-true x y e
     go false e = eqb-false x y e
 
+-- a bool that tells is the value of the test
+tells-holds : {A : Type 0} (b : Bool) (d : Dec A) → Tells b A → holds d ≡ b
+tells-holds true (yes p) h = refl
+tells-holds true (no n) h = absurd (n h)
+tells-holds false (yes p) h = absurd (h p)
+tells-holds false (no n) h = refl
+
+pub tells-same : (b : Bool) (x y : E) → Tells b (x ≡ y) → same x y ≡ b
+unfolding same
+tells-same b x y h = tells-holds b (same-discrete x y) h
+
+pub tells-bytes : (b : Bool) (x y : Bytes) → Tells b (x ≡ y) → sameBytes x y ≡ b
+unfolding sameBytes
+tells-bytes b x y h = tells-holds b (bytes-discrete x y) h
+
 -- two roots that were read, of one size n, and a bool that tells whether their rows agree
 pub trees-tell : (t u : Bytes) {w v : List ℕ} {i j : ℕ} {r s : Expr Span} (a : At w i r) (b : At v j s) (n : ℕ) (y : Bool) → n ≡ size r → n ≡ size s
     → Tells y ((k : ℕ) → k < n → cellAt t w (i + 1 - n + k) ≡ cellAt u v (j + 1 - n + k)) → Tells y (resolve t r ≡ resolve u s)
@@ -361,8 +386,11 @@ unfolding cellAt
 cell-found t f = rw (f .kind, f .x, f .y)
 
 -- a literal that was read lies in the text
-pub in-text : {m : ℕ} {w : List ℕ} {i k x y n : ℕ} → Inside w m → Found w i k x y n → shapeOf k ≡ Lit → x + y ≤ m
-in-text {m} {w} {i} {k} {x} {y} ins f s = rw (f .x, f .y) at (ins i (f .within) (rw (f .kind) s))
+pub lit-inside : (m : ℕ) {w : List ℕ} {i k x y n : ℕ} → LitInside w m i → Found w i k x y n → shapeOf k ≡ Lit → x + y ≤ m
+lit-inside m {w} {i} {k} {x} {y} ins f s = rw (f .x, f .y) at (ins (rw (f .kind) s))
+
+pub in-text : (m : ℕ) {w : List ℕ} {i k x y n : ℕ} → Inside w m → Found w i k x y n → shapeOf k ≡ Lit → x + y ≤ m
+in-text m {w} {i} ins f s = lit-inside m (ins i (f .within)) f s
 
 -- two rows that were read
 module _ (t u : Bytes) {w v : List ℕ} {i k x y n j l x′ y′ n′ : ℕ} (f : Found w i k x y n) (g : Found v j l x′ y′ n′) where
@@ -373,12 +401,12 @@ module _ (t u : Bytes) {w v : List ℕ} {i k x y n j l x′ y′ n′ : ℕ} (f 
   unfolding cellOf
   rows-kind e = sym (cell-kind (shapeOf k) t k x y) ∙ ap kindIn (cells-of e) ∙ cell-kind (shapeOf l) u l x′ y′
 
-  pub rows-y : Inside w (length t) → Inside v (length u) → k ≡ l → cellAt t w i ≡ cellAt u v j → y ≡ y′
+  pub rows-y : LitInside w (length t) i → LitInside v (length u) j → k ≡ l → cellAt t w i ≡ cellAt u v j → y ≡ y′
   unfolding cellOf
   rows-y ins inu q e = go (shapeOf k) refl (cells-of e ∙ ap (λ (m : ℕ). cellOf u m x′ y′) (sym q))
     where
       go : (s : Shape) → shapeOf k ≡ s → cellBy s t k x y ≡ cellBy s u k x′ y′ → y ≡ y′
-      go Lit h p = sym (length-part t x y (in-text ins f h)) ∙ ap (λ (c : Cell). length (bytesIn c)) p ∙ length-part u x′ y′ (in-text inu g (ap shapeOf (sym q) ∙ h))
+      go Lit h p = sym (length-part t x y (lit-inside (length t) ins f h)) ∙ ap (λ (c : Cell). length (bytesIn c)) p ∙ length-part u x′ y′ (lit-inside (length u) inu g (ap shapeOf (sym q) ∙ h))
       go Num h p = ap yIn p
       go One h p = ap yIn p
       go Two h p = ap yIn p

@@ -1,12 +1,10 @@
 -- What a row that was read at a tree's root says of the tree: by the shape of its kind, by its kind, and by the views of trees. Assumes nothing.
 use mathlib.Core.Path.{_≡_, refl, sym, ap, _∙_}
-use mathlib.Core.Bool.{cond}
-use mathlib.Core.List.{List, [], _∷_, map}
-use mathlib.Core.Option.{Option, none, some}
+use mathlib.Core.List.{List, [], _∷_}
+use mathlib.Core.Option.{none, some}
 use Prim.Native.Nat.{ℕ, _+_, _-_, _≤_}
 use native.Mathlib.Omega.{arith}
 use borrow.Author.Tests.{eq-eqb, ne-eqb}
-use lib.Dec.{eqb}
 use lib.ListN.{length}
 use Rattle.grammar.specs.Basic.{Bytes}
 use Rattle.grammar.specs.Tree as tree
@@ -15,7 +13,7 @@ use Rattle.grammar.specs.Rows.{Span}
 use Rattle.grammar.specs.Text.{bytesAt, resolve}
 use Rattle.rows.specs.declared.Shape.{Shape}
 use Rattle.rows.specs.declared.Shape.the-variants.{Lit, Num, One, Two, Skips}
-use Rattle.rows.specs.Rows.{At, AtStrs, shapeOf, kindAt, xAt, yAt, sizeAt}
+use Rattle.rows.specs.Rows.{At, AtStrs, shapeOf}
 use Rattle.rows.proofs.Laws.{headOf, root, Found, root-found, found-size, at-un, at-left, at-right, at-strs, at-first, at-others, size-pos}
 use Rattle.rows.proofs.Cells.{lit-shape, fixed-shape, un-shape, bin-shape, skip-shape, lit-same, fixed-same, un-same, bin-same}
 
@@ -48,9 +46,8 @@ pub record TwoView (w : List ℕ) (i k x y n : ℕ) (r : Expr Span) : Type 0 whe
   pub left : Expr Span
   pub right : Expr Span
   pub is : r ≡ bin op left right
+  pub head : _≡_ {A = tree.Head} (k, x, y) (binKind op, 0, 0)
   pub kind : k ≡ binKind op
-  pub noX : x ≡ 0
-  pub noY : y ≡ 0
   pub rows : n ≡ size left + size right + 1
   pub leastLeft : 1 ≤ size left
   pub leastRight : 1 ≤ size right
@@ -61,9 +58,9 @@ pub record TwoView (w : List ℕ) (i k x y n : ℕ) (r : Expr Span) : Type 0 whe
 pub record SkipView (w : List ℕ) (i k x y n : ℕ) (r : Expr Span) : Type 0 where
   pub strings : List Span
   pub is : r ≡ skip strings
+  pub head : _≡_ {A = tree.Head} (k, x, y) (17, length strings, 0)
   pub kind : k ≡ 17
   pub count : x ≡ length strings
-  pub noY : y ≡ 0
   pub rows : n ≡ length strings + 1
   pub most : length strings ≤ i
   pub at : AtStrs w (i - length strings) strings
@@ -118,16 +115,45 @@ module _ {w : List ℕ} {i k x y n : ℕ} where
   as-two {r = un op c} f a h = let e : One ≡ Two = found-shape f a h in let z : _≡_ {A = ℕ} 0 1 = cc in absurd (omega arith)
   as-two {r = bin op l c} f a h =
       let t = root a in
-      record { op = op; left = l; right = c; is = refl; kind = sym (f .kind) ∙ t .kind; noX = sym (f .x) ∙ t .x; noY = sym (f .y) ∙ t .y; rows = found-size f a; leastLeft = size-pos l; leastRight = size-pos c; most = omega (arith, t .most); atLeft = at-left a; atRight = at-right a }
+      record {
+        op = op;
+        left = l;
+        right = c;
+        is = refl;
+        head = found-head f a;
+        kind = sym (f .kind) ∙ t .kind;
+        rows = found-size f a;
+        leastLeft = size-pos l;
+        leastRight = size-pos c;
+        most = omega (arith, t .most);
+        atLeft = at-left a;
+        atRight = at-right a;
+      }
 
   pub as-skip : {r : Expr Span} → Found w i k x y n → At w i r → shapeOf k ≡ Skips → SkipView w i k x y n r
   as-skip {r = lit op s} f a h = let e : Lit ≡ Skips = found-shape f a h in let z : _≡_ {A = ℕ} 0 1 = cc in absurd (omega arith)
   as-skip {r = fixed op} f a h = let e : Num ≡ Skips = found-shape f a h in let z : _≡_ {A = ℕ} 0 1 = cc in absurd (omega arith)
   as-skip {r = skip ss} f a h =
       let t = root a in
-      record { strings = ss; is = refl; kind = sym (f .kind) ∙ t .kind; count = sym (f .x) ∙ t .x; noY = sym (f .y) ∙ t .y; rows = found-size f a; most = omega (arith, t .most); at = at-strs a }
+      record {
+        strings = ss;
+        is = refl;
+        head = found-head f a;
+        kind = sym (f .kind) ∙ t .kind;
+        count = sym (f .x) ∙ t .x;
+        rows = found-size f a;
+        most = omega (arith, t .most);
+        at = at-strs a;
+      }
   as-skip {r = un op c} f a h = let e : One ≡ Skips = found-shape f a h in let z : _≡_ {A = ℕ} 0 1 = cc in absurd (omega arith)
   as-skip {r = bin op l c} f a h = let e : Two ≡ Skips = found-shape f a h in let z : _≡_ {A = ℕ} 0 1 = cc in absurd (omega arith)
+
+-- the left child's root by the size word of the right one, and a Skip's strings by its count
+pub left-at : {w : List ℕ} {i k x y n : ℕ} {r : Expr Span} (v : TwoView w i k x y n r) (m : ℕ) → m ≡ size (v .right) → At w (i - 1 - m) (v .left)
+left-at v m e = rw e (v .atLeft)
+
+pub strs-at : {w : List ℕ} {i k x y n : ℕ} {r : Expr Span} (v : SkipView w i k x y n r) → AtStrs w (i - x) (v .strings)
+strs-at v = rw (v .count) (v .at)
 
 -- ---- by kind: the tag of the tree is the one that has the row's words
 
@@ -146,18 +172,18 @@ module _ {k x y n : ℕ} {r : Expr Span} where
 
 -- ---- by the views of trees, with the literals' bytes: what litAt, unAt and binAt find
 
-module _ (t : Bytes) {k x y n : ℕ} {r : Expr Span} where
-  pub lit-some : LitView k x y n r → litAt k (resolve t r) ≡ some (bytesAt t (x, y))
-  lit-some v = rw (v .is) (rw (eq-eqb _ _ (sym (v .kind))))
+module _ (t : Bytes) (j : ℕ) {k x y n : ℕ} {r : Expr Span} where
+  pub lit-some : k ≡ j → LitView k x y n r → litAt j (resolve t r) ≡ some (bytesAt t (x, y))
+  lit-some h v = rw (v .is) (rw (eq-eqb _ _ (sym (v .kind) ∙ h)))
 
-  pub one-some : {w : List ℕ} {i : ℕ} (v : OneView w i k x y n r) → unAt k (resolve t r) ≡ some (resolve t (v .child))
-  one-some v = rw (v .is) (rw (eq-eqb _ _ (sym (ap (λ (h : tree.Head). h .0) (v .head)))))
+  pub one-some : {w : List ℕ} {i : ℕ} → k ≡ j → (v : OneView w i k x y n r) → unAt j (resolve t r) ≡ some (resolve t (v .child))
+  one-some h v = rw (v .is) (rw (eq-eqb _ _ (sym (ap (λ (h : tree.Head). h .0) (v .head)) ∙ h)))
 
-  pub two-some : {w : List ℕ} {i : ℕ} (v : TwoView w i k x y n r) → binAt k (resolve t r) ≡ some (resolve t (v .left), resolve t (v .right))
-  two-some v = rw (v .is) (rw (eq-eqb _ _ (sym (v .kind))))
+  pub two-some : {w : List ℕ} {i : ℕ} → k ≡ j → (v : TwoView w i k x y n r) → binAt j (resolve t r) ≡ some (resolve t (v .left), resolve t (v .right))
+  two-some h v = rw (v .is) (rw (eq-eqb _ _ (sym (v .kind) ∙ h)))
 
 -- none of them finds anything at a root of another kind
-module _ (t : Bytes) {w : List ℕ} {i k x y n : ℕ} (j : ℕ) where
+module _ (t : Bytes) (j : ℕ) {w : List ℕ} {i k x y n : ℕ} where
   pub lit-none : {r : Expr Span} → Found w i k x y n → At w i r → (k ≡ j → ⊥) → litAt j (resolve t r) ≡ none
   lit-none {r = lit op s} f a h = let e : litKind op ≡ k = sym (root a .kind) ∙ f .kind in rw (ne-eqb (litKind op) j (λ q. h (sym e ∙ q)))
   lit-none {r = fixed op} f a h = refl
