@@ -1,0 +1,91 @@
+-- Refusal 5 over words: no two names equal and none reserved is what the definition asks of the table's names. Assumes nothing.
+use mathlib.Core.Path.{_≡_, refl, sym, ap, ap₂, _∙_}
+use mathlib.Core.Bool.{false≢true, Bool, true, false, _||_}
+use mathlib.Core.List.{List, [], _∷_}
+use mathlib.Core.Option.{some}
+use Prim.Native.Nat.{ℕ, zero, suc, _/_, _<_}
+use native.Mathlib.Omega.{arith}
+use lib.ListN.{length, getElem?}
+use Rattle.grammar.specs.Basic.{Bytes, any, sameBytes, member}
+use Rattle.grammar.specs.Rows.{Span}
+use Rattle.grammar.specs.Text.{bytesAt}
+use Rattle.grammar.specs.Table.{Rule, Table, ruleWords, resolveTable}
+use Rattle.grammar.specs.Refusals.{reserved, repeated, names, badNames}
+use Rattle.grammar.proofs.Logic.{eq-sameBytes, sameBytes-eq, none-some, some-eq}
+use Rattle.names.specs.Names.{nameOf}
+use Rattle.names.proofs.Finding.{There, there, inside-table, name-is, rule-count}
+use Rattle.refusals.specs.Bytes.{NamesFine}
+use Rattle.refusals.proofs.Fours.{neither-left, neither-right}
+
+differ : (x y : Bytes) → (x ≡ y → ⊥) → sameBytes x y ≡ false
+differ x y d = go (sameBytes x y) refl
+  where
+    go : (b : Bool) → sameBytes x y ≡ b → b ≡ false
+    go true q = absurd (d (sameBytes-eq x y q))
+    go false q = refl
+
+module _ (text : Bytes) where
+  abbrev nm : Rule Span → Bytes
+  nm r = bytesAt text (r .name)
+
+  abbrev ns : Table Span → List Bytes
+  ns t = names (resolveTable text t)
+
+  -- a name is not among those of a table
+  member-none : (x : Bytes) (t : Table Span) → ((i : ℕ) (r : Rule Span) → getElem? t i ≡ some r → x ≡ nm r → ⊥) → member x (ns t) ≡ false
+  member-none x [] f = refl
+  member-none x (r ∷ t) f = ap₂ _||_ (differ x (nm r) (f zero r refl)) (member-none x t (λ i. f (suc i)))
+
+  none-member : (x : Bytes) (t : Table Span) → member x (ns t) ≡ false → (i : ℕ) (r : Rule Span) → getElem? t i ≡ some r → x ≡ nm r → ⊥
+  none-member x [] h i r g e = none-some g
+  none-member x (s ∷ t) h zero r g e =
+      let q : s ≡ r = some-eq _ _ g in
+      false≢true (sym (neither-left (sameBytes x (nm s)) (member x (ns t)) h) ∙ eq-sameBytes x (nm s) (e ∙ ap nm (sym q)))
+  none-member x (s ∷ t) h (suc i) r g e = none-member x t (neither-right (sameBytes x (nm s)) (member x (ns t)) h) i r g e
+
+  abbrev Apart : Table Span → Type 0
+  Apart t = (i j : ℕ) (r s : Rule Span) → i < j → getElem? t i ≡ some r → getElem? t j ≡ some s → nm r ≡ nm s → ⊥
+
+  not-repeated : (t : Table Span) → Apart t → repeated (ns t) ≡ false
+  not-repeated [] f = refl
+  not-repeated (r ∷ t) f = ap₂ _||_ (member-none (nm r) t (λ i s g. f zero (suc i) r s (omega arith) refl g)) (not-repeated t (λ i j p q l. f (suc i) (suc j) p q (omega arith)))
+
+  repeated-not : (t : Table Span) → repeated (ns t) ≡ false → Apart t
+  repeated-not [] h i j r s l g k = none-some g
+  repeated-not (p ∷ t) h i zero r s l g k = absurd (omega arith)
+  repeated-not (p ∷ t) h zero (suc j) r s l g k =
+      let q : p ≡ r = some-eq _ _ g in
+      λ e. none-member (nm p) t (neither-left (member (nm p) (ns t)) (repeated (ns t)) h) j s k (ap nm q ∙ e)
+  repeated-not (p ∷ t) h (suc i) (suc j) r s l g k = repeated-not t (neither-right (member (nm p) (ns t)) (repeated (ns t)) h) i j r s (omega arith) g k
+
+  abbrev Free : Table Span → Type 0
+  Free t = (i : ℕ) (r : Rule Span) → getElem? t i ≡ some r → member (nm r) reserved ≡ false
+
+  all-free : (t : Table Span) → Free t → any (λ x. member x reserved) (ns t) ≡ false
+  all-free [] f = refl
+  all-free (r ∷ t) f = ap₂ _||_ (f zero r refl) (all-free t (λ i. f (suc i)))
+
+  free-all : (t : Table Span) → any (λ x. member x reserved) (ns t) ≡ false → Free t
+  free-all [] h i r g = none-some g
+  free-all (s ∷ t) h zero r g = let q : s ≡ r = some-eq _ _ g in ap (λ (p : Rule Span). member (nm p) reserved) (sym q) ∙ neither-left _ (any (λ x. member x reserved) (ns t)) h
+  free-all (s ∷ t) h (suc i) r g = free-all t (neither-right (member (nm s) reserved) (any (λ x. member x reserved) (ns t)) h) i r g
+
+  pub names-fine : (t : Table Span) → NamesFine (ruleWords t) text → badNames (resolveTable text t) ≡ false
+  unfolding badNames
+  names-fine t f =
+      ap₂ _||_
+      (not-repeated t (λ i j r s l g k e. f .apart i j l (omega (arith, inside-table t j s k, rule-count t)) (name-is text t i r g ∙ e ∙ sym (name-is text t j s k))))
+      (all-free t (λ i r g. ap (λ (x : Bytes). member x reserved) (sym (name-is text t i r g)) ∙ f .free i (omega (arith, inside-table t i r g, rule-count t))))
+
+  pub fine-names : (t : Table Span) → badNames (resolveTable text t) ≡ false → NamesFine (ruleWords t) text
+  unfolding badNames
+  fine-names t h =
+      let a : repeated (ns t) ≡ false = neither-left (repeated (ns t)) (any (λ x. member x reserved) (ns t)) h in
+      let b : any (λ x. member x reserved) (ns t) ≡ false = neither-right (repeated (ns t)) (any (λ x. member x reserved) (ns t)) h in
+      record {
+        free = λ i l. let r : There t i = there t i (omega (arith, rule-count t)) in ap (λ (x : Bytes). member x reserved) (name-is text t i (r .rule) (r .is)) ∙ free-all t b i (r .rule) (r .is);
+        apart = λ i j l k e.
+            let r : There t i = there t i (omega (arith, rule-count t)) in
+            let s : There t j = there t j (omega (arith, rule-count t)) in
+            repeated-not t a i j (r .rule) (s .rule) l (r .is) (s .is) (sym (name-is text t i (r .rule) (r .is)) ∙ e ∙ name-is text t j (s .rule) (s .is));
+      }
