@@ -9,7 +9,8 @@ use Rattle.grammar.specs.Basic.{Bytes}
 use Rattle.grammar.specs.Tree.{Lit, Str, Insens, Ident, Seq, Choice, E, Expr, lit, fixed, skip, un, bin, size}
 use Rattle.grammar.specs.Rows.{Span}
 use Rattle.grammar.specs.Text.{bytesAt, resolve}
-use Rattle.grammar.specs.Table.{Table, resolveTable, find}
+use Rattle.grammar.specs.Table.{Table, ruleWords, resolveTable, find}
+use Rattle.grammar.proofs.Logic.{some-eq}
 use Rattle.grammar.specs.Lists.{Reading, nothing, strings, andThen, readLeft, readIn}
 use Rattle.rows.specs.Rows.{At}
 use Rattle.rows.proofs.Laws.{Found, root, found-size, size-pos}
@@ -18,11 +19,11 @@ use Rattle.rows.proofs.Views.{TwoView, as-lit, as-two, lit-is, two-is}
 use Rattle.names.specs.Names.{Hashed, Ended, First, Finds}
 use Rattle.names.specs.declared.Found.{Found as Found′}
 use Rattle.names.specs.declared.Found.the-variants.{At as Sited, Nothing}
-use Rattle.names.proofs.Finding.{There, there, rule-count, rule-words}
+use Rattle.names.proofs.Finding.{There, there, rule-count, rule-words, looked, body-at}
 use Rattle.skipper.specs.Memory.{Known, Reads}
 use Rattle.skipper.specs.Lends.{indexFrom, marksOf, Lent, Given, Steady, Ran, ReadsOf}
 use Rattle.skipper.proofs.Memories.{Monotone, left-mono, reads-plain, reads-marked, reads-unknown, reads-then, reads-stop, reads-rule}
-use Rattle.skipper.proofs.Rules.{zeros-set, steady-none, steady-more, steady-set, sets-mark, index-first, index-nothing, find-first, find-nothing, rule-at}
+use Rattle.skipper.proofs.Rules.{zeros-set, steady-none, steady-more, steady-set, sets-mark, index-first, index-nothing}
 
 -- what is lent stays lent
 pub given-steady : {rules rows : List ℕ} {text : Bytes} {m m′ : List ℕ} → Given rules rows text m → Steady m m′ → length m′ ≡ length m → Given rules rows text m′
@@ -94,37 +95,33 @@ module _ (left whole : (Bytes → Reading) → E → Reading) (mono : (e : E) �
       rw (two-is Choice v z, step (resolve s (v .left)) (resolve s (v .right)))
       (record { read = λ known. reads-then (λ look. left look (resolve s (v .left))) (λ look. whole look (resolve s (v .right))) (mono (resolve s (v .left))) (l .read known) (q (v .right) (v .atRight) .read (l .read known .known (omega arith))) })
 
--- Rule k
-module _ {rules rows : List ℕ} {t : Table Span} (lent : Lent rules rows t) where
+-- a name, looked up
+module _ {rules : List ℕ} (t : Table Span) (heads : rules ≡ ruleWords t) where
   pub count : length rules / 4 ≡ length t
-  count = ap (λ (w : List ℕ). length w / 4) (lent .heads) ∙ rule-count t
+  count = ap (λ (w : List ℕ). length w / 4) heads ∙ rule-count t
 
   pub rule-there : (k : ℕ) → k < length rules / 4 → There t k
   rule-there k h = there t k (omega (arith, count))
 
-  pub rule-stands : {m : List ℕ} (k : ℕ) (r : There t k) → k < length rules / 4 → Ended rules m → At rows (getD m (k * 4 + 3) 0 - 1) (r .rule .body)
-  rule-stands k r h d = rw (lent .trees, d .end k h, lent .heads) (rule-at t k (r .rule) (r .is))
-
-  pub rule-end : {m : List ℕ} (k : ℕ) → k < length rules / 4 → Ended rules m → 1 ≤ getD m (k * 4 + 3) 0
-  rule-end k h d =
-      let r = rule-there k h in
-      let e : getD rules (k * 4 + 3) 0 ≡ size (r .rule .body) = ap (λ (v : List ℕ). getD v (k * 4 + 3) 0) (lent .heads) ∙ rule-words t k (r .rule) (r .is) .rows′ in
-      omega (arith, d .end k h, size-pos (r .rule .body))
-
-  -- a name, looked up
   module _ (s : Bytes) (m : List ℕ) (x : Bytes) where
-    pub name-nothing : Finds (length rules / 4) rules s x Nothing → ReadsOf s t m m 2 (λ look. look x)
+    pub nothing-mark : Finds (length rules / 4) rules s x Nothing → marksOf (resolveTable s t) m x ≡ 2
     unfolding marksOf
-    name-nothing n = record { read = λ known. reads-unknown x known (rw (index-nothing 0 t s x (λ j h e. n j (omega (arith, count)) (rw (lent .heads) e)))) }
+    nothing-mark n = rw (index-nothing 0 t s x (λ j h e. n j (omega (arith, count)) (rw heads e)))
+
+    pub name-nothing : Finds (length rules / 4) rules s x Nothing → ReadsOf s t m m 2 (λ look. look x)
+    name-nothing n = record { read = λ known. reads-unknown x known (nothing-mark n) }
 
     module _ {k : ℕ} (f : First (length rules / 4) rules s x k) where
-      pub name-index : indexFrom 0 (resolveTable s t) x ≡ some k
+      name-index : indexFrom 0 (resolveTable s t) x ≡ some k
       name-index =
           let e : _≡_ {A = ℕ} (0 + k) k = omega arith in
-          index-first 0 t s x k (omega (arith, f .below, count)) (rw (← (lent .heads)) (f .same)) (λ j h q. f .first j h (rw (lent .heads) q)) ∙ ap some e
+          index-first 0 t s x k (omega (arith, f .below, count)) (rw (← heads) (f .same)) (λ j h q. f .first j h (rw heads q)) ∙ ap some e
 
       pub name-found : (r : There t k) → find (resolveTable s t) x ≡ some (resolve s (r .rule .body))
-      name-found r = find-first t s x k (r .rule) (r .is) (rw (← (lent .heads)) (f .same)) (λ j h q. f .first j h (rw (lent .heads) q))
+      name-found r =
+          let l = looked s x t k (rw heads at f) in
+          let e : l .rule ≡ r .rule = some-eq (l .rule) (r .rule) (sym (l .is) ∙ r .is) in
+          rw (← e) (l .finds)
 
       pub name-mark : marksOf (resolveTable s t) m x ≡ getD m (k * 4 + 1) 0
       unfolding marksOf
@@ -140,3 +137,14 @@ module _ {rules rows : List ℕ} {t : Table Span} (lent : Lent rules rows t) whe
           → ReadsOf s t m (set m₂ (k * 4 + 1) v) v (λ look. look x)
       name-read {m₂} {v} r l l₂ z h =
           record { read = λ known. reads-rule (name-found r) (name-mark ∙ z) known (sets-mark (resolveTable s t) m x k 1 name-index l) (h .read) (sets-mark (resolveTable s t) m₂ x k v name-index l₂) }
+
+-- rule k
+module _ {rules rows : List ℕ} {t : Table Span} (lent : Lent rules rows t) where
+  pub rule-stands : {m : List ℕ} (k : ℕ) (r : There t k) → k < length rules / 4 → Ended rules m → At rows (getD m (k * 4 + 3) 0 - 1) (r .rule .body)
+  rule-stands k r h d = rw (lent .trees, d .end k h, lent .heads) (body-at t k (r .rule) (r .is))
+
+  pub rule-end : {m : List ℕ} (k : ℕ) → k < length rules / 4 → Ended rules m → 1 ≤ getD m (k * 4 + 3) 0
+  rule-end k h d =
+      let r = rule-there t (lent .heads) k h in
+      let e : getD rules (k * 4 + 3) 0 ≡ size (r .rule .body) = ap (λ (v : List ℕ). getD v (k * 4 + 3) 0) (lent .heads) ∙ rule-words t k (r .rule) (r .is) .rows′ in
+      omega (arith, d .end k h, size-pos (r .rule .body))

@@ -45,7 +45,7 @@ module _ {w : List ℕ} {i k x y n : ℕ} {r : Expr Span} (f : Found w i k x y n
   not-view = as-one f a (rw z (un-shape NegPred))
 
   pub not-over : (s : Bytes) → OverAt (i - 1) w s (asNegPred (resolve s r))
-  not-over s = record { tree = not-view .child; at = not-view .at; is = subst (λ (j : ℕ). Rattle.grammar.specs.Tree.unAt j (resolve s r) ≡ some (resolve s (not-view .child))) z (one-some s not-view) }
+  not-over s = record { tree = not-view .child; at = not-view .at; is = one-some s 7 z not-view }
 
 -- !e ~ ANY
 no-name : (o : Option E) → (o >>= λ x. none >>= λ (y : Bytes). test (sameBytes y ANY) >>= λ _. some x) ≡ none
@@ -87,7 +87,7 @@ module _ (s : Bytes) {w : List ℕ} {i k x y n : ℕ} {r : Expr Span} (f : Found
     seq-view = as-two f a (rw z (bin-shape Seq))
 
     is-seq : asSeq (resolve s r) ≡ some (resolve s (seq-view .left), resolve s (seq-view .right))
-    is-seq = subst (λ (j : ℕ). Rattle.grammar.specs.Tree.binAt j (resolve s r) ≡ some (resolve s (seq-view .left), resolve s (seq-view .right))) z (two-some s seq-view)
+    is-seq = two-some s 8 z seq-view
 
     module _ {k′ x′ y′ n′ : ℕ} (g : Found w (i - 1) k′ x′ y′ n′) where
       pub loop-not-ident : (k′ ≡ 3 → ⊥) → loopOver (un Rep (resolve s r)) ≡ none
@@ -95,7 +95,7 @@ module _ (s : Bytes) {w : List ℕ} {i k x y n : ℕ} {r : Expr Span} (f : Found
 
       module _ (d : k′ ≡ 3) where
         is-ident : asIdent (resolve s (seq-view .right)) ≡ some (bytesAt s (x′, y′))
-        is-ident = subst (λ (j : ℕ). Rattle.grammar.specs.Tree.litAt j (resolve s (seq-view .right)) ≡ some (bytesAt s (x′, y′))) d (lit-some s (as-lit g (seq-view .atRight) (rw d (lit-shape Ident))))
+        is-ident = lit-some s 3 d (as-lit g (seq-view .atRight) (rw d (lit-shape Ident)))
 
         pub right-one : size (seq-view .right) ≡ 1
         right-one = sym (found-size g (seq-view .atRight)) ∙ as-lit g (seq-view .atRight) (rw d (lit-shape Ident)) .rows

@@ -86,7 +86,7 @@ module _ (s : Bytes) {w : List ℕ} {i k x y n : ℕ} {r : Expr Span} (f : Found
     rep-view = as-one f a (rw z (un-shape Rep))
 
     pub rep-is : loopOver (resolve s r) ≡ loopOver (un Rep (resolve s (rep-view .child)))
-    rep-is = loop-rep (resolve s r) (resolve s (rep-view .child)) (subst (λ (j : ℕ). unAt j (resolve s r) ≡ some (resolve s (rep-view .child))) z (one-some s rep-view))
+    rep-is = loop-rep (resolve s r) (resolve s (rep-view .child)) (one-some s 11 z rep-view)
 
     module _ {b : Loop} (h : LoopAnswer b w s (loopOver (un Rep (resolve s (rep-view .child))))) where
       pub loop-nothing : {t : Table Span} {m : List ℕ} {v : ℕ} → b ≡ Nothing → (v ≡ 1 → ⊥) → LoopsOf s t m m v (λ look. openAt look (resolve s r))

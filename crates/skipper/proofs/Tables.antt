@@ -103,7 +103,7 @@ module _ {rules rows : List ℕ} {text : Bytes} {m : List ℕ} (g : Given rules 
 
   pub tree-rows : TreeRows rows (end - n) end
   tree-rows =
-      let r = rule-there (g .lent) k b in
+      let r = rule-there (g .table) (g .lent .heads) k b in
       let q = rule-size (g .lent) k (r .rule) (r .is) in
       record { tree = r .rule .body; at = rw e (rule-tree (g .lent) k (r .rule) (r .is) b (g .ended)); rows = omega (arith, rule-fits) }
 
@@ -127,7 +127,7 @@ module _ {rules rows : List ℕ} {text : Bytes} {m m₁ : List ℕ} {k : ℕ} (i
   module _ (lt : k < length rules / 4) {m₂ : List ℕ} {v : ℕ} (h : (t : Table Span) (r : Rule Span) → Lent rules rows t → getElem? t k ≡ some r → LoopsOf text t m₁ m₂ v (λ look. ruleOpen look (resolveRule text r))) where
     pub rules-met : (t : Table Span) → Lent rules rows t → v ≡ 1 → LoopsOf text t m m₂ v (λ look. any (ruleOpen look) (resolveTable text t))
     rules-met t l e =
-        let r = rule-there l k lt in
+        let r = rule-there t (l .heads) k lt in
         record {
           met = λ kn id z. let x = inv .settled t l kn id in rules-yes (ruleOpen (nameList (resolveTable text t) [])) text t k (r .rule) (r .is) (h t (r .rule) l (r .is) .met (x .known) (idle-grows id (x .grows)) e);
           settled = λ kn id n. absurd (n e);
@@ -146,7 +146,7 @@ module _ {rules rows : List ℕ} {text : Bytes} {m m₁ : List ℕ} {k : ℕ} (i
           high = omega arith;
           steady = steady-more (inv .steady) s;
           long = g ∙ inv .long;
-          settled = λ t l kn id. let x = inv .settled t l kn id in let r = rule-there l k lt in
+          settled = λ t l kn id. let x = inv .settled t l kn id in let r = rule-there t (l .heads) k lt in
               more-settled t r x (h t (r .rule) l (r .is) .settled (x .known) (idle-grows id (x .grows)) n);
         }
 
@@ -154,7 +154,7 @@ module _ {rules rows : List ℕ} {text : Bytes} {m m₁ : List ℕ} {k : ℕ} (i
   rules-end le n t l =
       record {
         met = λ kn id z. absurd (n z);
-        settled = λ kn id z. let x = inv .settled t l kn id in record { known = x .known; grows = x .grows; no = rules-no (ruleOpen (byMarks (marksOf (resolveTable text t) m₁))) text t (λ j r e. x .no j r (omega (arith, inside-table t j r e, count l)) e) };
+        settled = λ kn id z. let x = inv .settled t l kn id in record { known = x .known; grows = x .grows; no = rules-no (ruleOpen (byMarks (marksOf (resolveTable text t) m₁))) text t (λ j r e. x .no j r (omega (arith, inside-table t j r e, count t (l .heads))) e) };
       }
 
 -- Marks that remember nothing
@@ -204,7 +204,7 @@ module _ {rules rows : List ℕ} {text : Bytes} {m : List ℕ} (g : Given rules 
       where
         go : (o : Option ℕ) → indexFrom 0 (resolveTable text t) z ≡ o → stateAt (cleared n m) o ≡ 1 → ⊥
         go none q h = omega arith
-        go (some k) q h = omega (arith, marked-at (λ _. 0) 1 n m k (omega arith) (g .hashed .long) (omega (arith, index-below 0 k (resolveTable text t) z q, length-table text t, count l)))
+        go (some k) q h = omega (arith, marked-at (λ _. 0) 1 n m k (omega arith) (g .hashed .long) (omega (arith, index-below 0 k (resolveTable text t) z q, length-table text t, count t (l .heads))))
 
     pub cleared-known : Known (resolveTable text t) (marksOf (resolveTable text t) (cleared n m))
     unfolding marksOf
@@ -212,7 +212,7 @@ module _ {rules rows : List ℕ} {text : Bytes} {m : List ℕ} (g : Given rules 
       where
         go : (y : Bytes) (o : List Bytes) (p : Option ℕ) → indexFrom 0 (resolveTable text t) y ≡ p → 2 ≤ stateAt (cleared n m) p → markOf (nameList (resolveTable text t) o y) ≡ stateAt (cleared n m) p
         go y o none q h = ap markOf (name-none (resolveTable text t) o y (find-index 0 (resolveTable text t) y q))
-        go y o (some k) q h = absurd (omega (arith, marked-at (λ _. 0) 1 n m k (omega arith) (g .hashed .long) (omega (arith, index-below 0 k (resolveTable text t) y q, length-table text t, count l))))
+        go y o (some k) q h = absurd (omega (arith, marked-at (λ _. 0) 1 n m k (omega arith) (g .hashed .long) (omega (arith, index-below 0 k (resolveTable text t) y q, length-table text t, count t (l .heads)))))
 
     -- WHAT THE READING OF A TABLE SAYS
     module _ {m′ : List ℕ} {v : ℕ} (h : LoopsOf text t (cleared n m) m′ v (λ look. any (ruleOpen look) (resolveTable text t))) where

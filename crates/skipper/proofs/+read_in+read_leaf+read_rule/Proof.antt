@@ -217,7 +217,7 @@ read-leaf-wide-requires-2 t c κs = search needs
 read-leaf-find-rule-requires : (t : ℕ) → read-leaf-lts.Need-find-rule-requires (calls-read-leaf t) (read-leaf-at t) read-leaf.Post
 read-leaf-find-rule-requires t c κs = let s = c .before .before .before .before .before .before .before .before .before .before .before .before .before in
     let f = leaf-read t (c .before .before .before .before .before) in
-    (s .pre .1 .0 .hashed, rw (c .before .wide .ensures, c .wide2 .ensures) (in-text (s .pre .1 .0 .inside) f (rw (c .before .before .before .if2 .left) (lit-shape Ident))))
+    (s .pre .1 .0 .hashed, rw (c .before .wide .ensures, c .wide2 .ensures) (in-text _ (s .pre .1 .0 .inside) f (rw (c .before .before .before .if2 .left) (lit-shape Ident))))
 
 -- src/lib.rt:62:19
 read-leaf-enum-known-i : (t : ℕ) → read-leaf-lts.Need-enum-known-i (calls-read-leaf t) (read-leaf-at t) read-leaf.Post
@@ -233,7 +233,7 @@ read-leaf-same-length t c = search needs
 
 -- src/lib.rt:63:9
 read-leaf-returns-4 : (t : ℕ) → read-leaf-lts.Need-returns-4 (calls-read-leaf t) (read-leaf-at t) read-leaf.Post
-read-leaf-returns-4 t c = (record { steady = steady-none _; least = omega arith }, λ u r l a. leaf-ident _ (leaf-read t (c .before .before .before .before .before .before .before .before)) a (c .before .before .before .before .before .before .if2 .left) (name-nothing l _ _ _ (finds-nothing _ _ _ (c .before .before .before .before .wide .ensures) (c .before .before .before .wide2 .ensures) (c .before .before .find-rule .ensures) (c .enum-told2 .given .1))))
+read-leaf-returns-4 t c = (record { steady = steady-none _; least = omega arith }, λ u r l a. leaf-ident _ (leaf-read t (c .before .before .before .before .before .before .before .before)) a (c .before .before .before .before .before .before .if2 .left) (name-nothing u (l .heads) _ _ _ (finds-nothing _ _ _ (c .before .before .before .before .wide .ensures) (c .before .before .before .wide2 .ensures) (c .before .before .find-rule .ensures) (c .enum-told2 .given .1))))
 
 -- src/lib.rt:65:22
 read-leaf-mul-mark : (t : ℕ) → read-leaf-lts.Need-mul-mark (calls-read-leaf t) (read-leaf-at t) read-leaf.Post
@@ -259,7 +259,7 @@ read-leaf-same-length-2 t c = search needs
 read-leaf-returns-5 : (t : ℕ) → read-leaf-lts.Need-returns-5 (calls-read-leaf t) (read-leaf-at t) read-leaf.Post
 read-leaf-returns-5 t c = (
   record { steady = steady-none _; least = omega (arith, c .if3 .taken) },
-  λ u r l a. leaf-ident _ (leaf-read t (c .before .before .before .before .before .before .before .before .before .before .before)) a (c .before .before .before .before .before .before .before .before .before .if2 .left) (name-marked l _ _ _ (leaf-first t (c .before .before)) _ refl (c .if3 .taken)),
+  λ u r l a. leaf-ident _ (leaf-read t (c .before .before .before .before .before .before .before .before .before .before .before)) a (c .before .before .before .before .before .before .before .before .before .if2 .left) (name-marked u (l .heads) _ _ _ (leaf-first t (c .before .before)) _ refl (c .if3 .taken)),
 )
 
 -- src/lib.rt:69:5
@@ -321,7 +321,7 @@ read-rule-read-in-requires t c κs = let s = c .before .before .before .before .
     let i = s .args .i in
     let h = s .pre .1 .1 .0 in
     let b : i * 4 + 1 < length (s .args .marks .now) = omega (arith, h, g .hashed .long) in
-    let r = rule-there (g .lent) i h in
+    let r = rule-there (g .table) (g .lent .heads) i h in
     let a = rule-stands (g .lent) i r h (g .ended) in
     let e = c .before .wide .ensures in (
       omega (arith, s .pre .0, e, zeros-set (s .args .marks .now) (i * 4 + 1) 1 b, ap isZero (s .pre .1 .1 .1), root a .rows, root a .most, root a .inside, s .good .1 .0 .0, ap (sizeAt (s .args .rows .now)) (ap (λ (n : ℕ). n - 1) e)),
@@ -357,7 +357,7 @@ read-rule-returns t c = let s = c .before .before .before .before .before .befor
     let ran = c .before .before .read-in .ensures .0 in
     let b₂ : i * 4 + 1 < length (c .before .before .read-in .last .1 .1 .1 .0) = omega (arith, c .before .before .read-in .kept .1 .1 .1 .0, length-set m (i * 4 + 1) 1) in (
       record { steady = steady-more (steady-more (steady-set m i 1 b (omega arith)) (ran .steady)) (steady-set _ i _ b₂ (ran .least)); least = ran .least },
-      λ u x l f. let r = rule-there l i h in name-read l _ m x f r b b₂ (s .pre .1 .1 .1) (c .before .before .read-in .ensures .1 u (r .rule .body) l (rw e (rule-stands l i r h (g .ended)))),
+      λ u x l f. let r = rule-there u (l .heads) i h in name-read u (l .heads) _ m x f r b b₂ (s .pre .1 .1 .1) (c .before .before .read-in .ensures .1 u (r .rule .body) l (rw e (rule-stands l i r h (g .ended)))),
     )
 
 pub +read-in+read-leaf+read-rule-spec : {M : Type 1} → statement M

@@ -77,7 +77,7 @@ wide-requires-2 c κs = search needs
 
 -- src/lib.rt:185:8
 is-any-requires : tie.Need-is-any-requires
-is-any-requires c κs = rw (c .before .wide .ensures, c .wide2 .ensures) (in-text (c .before .before .before .before .before .before .before .before .before .before .before .before .before .before .pre .0) (right (c .before .before .before)) (rw (c .before .before .if2 .left) (lit-shape Ident)))
+is-any-requires c κs = rw (c .before .wide .ensures, c .wide2 .ensures) (in-text _ (c .before .before .before .before .before .before .before .before .before .before .before .before .before .before .pre .0) (right (c .before .before .before)) (rw (c .before .before .if2 .left) (lit-shape Ident)))
 
 -- src/lib.rt:186:25
 sub-after-not : tie.Need-sub-after-not
