@@ -37,11 +37,11 @@ given-steady g s l =
     }
 
 -- what a search found, of a name that was handed over word by word
-module _ (n : ℕ) (rules : List ℕ) (s : Bytes) {p q x y : ℕ} {f : Found′} (d : p ≡ x) (e : q ≡ y) (h : Finds n rules s (bytesAt s (p, q)) f) where
-  pub finds-at : {i : ℕ} → f ≡ Sited i → First n rules s (bytesAt s (x, y)) i
+module _ (n : ℕ) (rules : List ℕ) (s u : Bytes) {p q x y : ℕ} {f : Found′} (d : p ≡ x) (e : q ≡ y) (h : Finds n rules s (bytesAt u (p, q)) f) where
+  pub finds-at : {i : ℕ} → f ≡ Sited i → First n rules s (bytesAt u (x, y)) i
   finds-at g = rw (d, e, g) at h
 
-  pub finds-nothing : f ≡ Nothing → Finds n rules s (bytesAt s (x, y)) Nothing
+  pub finds-nothing : f ≡ Nothing → Finds n rules s (bytesAt u (x, y)) Nothing
   finds-nothing g = rw (d, e, g) at h
 
 -- both sides of a Choice

@@ -6,3 +6,4 @@ pub mod Looping
 pub mod Settles
 pub mod Rotation
 pub mod Tables
+pub mod Spelling

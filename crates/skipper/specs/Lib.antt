@@ -3,3 +3,4 @@ pub mod Memory
 pub mod Lends
 pub mod Loops
 pub mod Lists
+pub mod Skips

@@ -6,20 +6,26 @@ ghost use Prim.Native.Nat.{ℕ, _+_, _-_, _*_, _/_, _≤_, _<_};
 ghost use mathlib.Core.Option.{some};
 ghost use lib.ListN.{length, getD, getElem?};
 ghost use Rattle.grammar.specs.Basic.{Bytes, any};
-ghost use Rattle.grammar.specs.Tree.{Expr, Rep, un, anyNode, asNegPred};
+ghost use Rattle.grammar.specs.Tree.{Expr, Rep, un, skip, anyNode, asNegPred};
 ghost use Rattle.grammar.specs.Rows.{Span};
 ghost use Rattle.grammar.specs.Text.{bytesAt, resolve};
-ghost use Rattle.grammar.specs.Table.{Table, Rule, resolveRule, resolveTable};
-ghost use Rattle.grammar.specs.Lists.{readLeft, readIn, loopOver};
-ghost use Rattle.grammar.specs.Steps.{rotate};
+ghost use Rattle.grammar.specs.Table.{Table, Rule, ruleWords, resolveRule, resolveTable};
+ghost use Rattle.grammar.specs.Lists.{strings, readLeft, readIn, loopOver, skipList};
+ghost use Rattle.grammar.specs.Steps.{rotate, isAtomic, topDown, orSame, skip?, skipTo};
 ghost use Rattle.rows.specs.Rows.{Inside, At, Stands};
-ghost use Rattle.names.specs.Names.{First, marked};
-ghost use Rattle.skipper.specs.Lends.{Given, Lent, Ran, ReadsOf};
+ghost use Rattle.writing.specs.Writes.{Room, StrsAnswer, Answer};
+ghost use Rattle.names.specs.Names.{First, Hashed, marked};
+ghost use Rattle.skipper.specs.Memory.{byMarks};
+ghost use Rattle.skipper.specs.Lends.{marksOf, Given, Lent, Ran, ReadsOf};
 ghost use Rattle.skipper.specs.Loops.{LoopAnswer, TreeRows, openAt, ruleOpen, LoopsOf};
 ghost use Rattle.skipper.specs.Lists.{ListsAnswer};
+ghost use Rattle.skipper.specs.Skips.{nodeOf, isList, ListAnswer, Spells, Spelled, Skipped, Settles, Settling};
 use names::Found;
 use rows::Lookup;
+use rows::Shape;
 use rows::wide;
+use writing::Place;
+use writing::Wrote;
 
 const AGAIN: u32 = 1;
 
@@ -37,6 +43,13 @@ pub enum Loop {
 pub enum Readings {
     Read,
     Again,
+}
+
+// How a walk from the top goes on: with no child, with one, with two.
+pub enum Node {
+    Leaf,
+    Single,
+    Pair,
 }
 
 // Reads rule i, which was not read.
@@ -325,4 +338,268 @@ pub fn read_lists(rules: &[u32], rows: &[u32], text: &[u8], marks: &mut [u32]) -
     } else {
         Readings::Read
     }
+}
+
+// How a walk goes on at a row of a kind.
+pub fn node_of(kind: u32) -> Node
+    ensures { λ r. ⌜ r ≡ nodeOf kind ⌝ }
+{
+    match rows::shape_of(kind) {
+        Shape::Lit => Node::Leaf,
+        Shape::Num => Node::Leaf,
+        Shape::One => Node::Single,
+        Shape::Two => Node::Pair,
+        Shape::Skips => Node::Leaf,
+    }
+}
+
+// Whether a literal has a list, by the marks of the table with the text `given`.
+pub fn leaf_listed(
+    rules: &[u32],
+    given: &[u8],
+    marks: &[u32],
+    rows: &[u32],
+    text: &[u8],
+    root: usize,
+) -> bool
+    requires { ⌜ Hashed (now rules) (now given) (now marks) ⌝ }
+    requires { ⌜ Inside (now rows) (length (now text)) ⌝ }
+    requires { ⌜ Stands (now rows) root ⌝ }
+    ensures { λ b. ⌜ ((t : Table Span) (r : Expr Span) → now (rules .entry) ≡ ruleWords t → At (now (rows .entry)) root r → b ≡ isList (readLeft (byMarks (marksOf (resolveTable (now (given .entry)) t) (now (marks .entry)))) (resolve (now (text .entry)) r))) ⌝ }
+{
+    let Lookup::Row {
+        kind,
+        x,
+        y,
+        size: _,
+    } = rows::row_at(rows, root)
+    else {
+        return false;
+    };
+    if kind == 0 {
+        return true;
+    }
+    if kind != 3 {
+        return false;
+    }
+    let Found::At(i) = names::find_rule(rules, given, marks, text, wide(x), wide(y)) else {
+        return false;
+    };
+    marks[i * 4 + 1] == LIST
+}
+
+// Whether an expression has a list, by the marks.
+pub fn listed(
+    rules: &[u32],
+    given: &[u8],
+    marks: &[u32],
+    rows: &[u32],
+    text: &[u8],
+    root: usize,
+) -> bool
+    requires { ⌜ Hashed (now rules) (now given) (now marks) ⌝ }
+    requires { ⌜ Inside (now rows) (length (now text)) ⌝ }
+    requires { ⌜ Stands (now rows) root ⌝ }
+    ensures { λ b. ⌜ ((t : Table Span) (r : Expr Span) → now (rules .entry) ≡ ruleWords t → At (now (rows .entry)) root r → b ≡ isList (readIn (byMarks (marksOf (resolveTable (now (given .entry)) t) (now (marks .entry)))) (resolve (now (text .entry)) r))) ⌝ }
+{
+    let Lookup::Row {
+        kind,
+        x: _,
+        y: _,
+        size: _,
+    } = rows::row_at(rows, root)
+    else {
+        return false;
+    };
+    if kind != 9 {
+        return leaf_listed(rules, given, marks, rows, text, root);
+    }
+    let right = root - 1;
+    let Lookup::Row {
+        kind: _,
+        x: _,
+        y: _,
+        size: n,
+    } = rows::row_at(rows, right)
+    else {
+        return false;
+    };
+    if leaf_listed(rules, given, marks, rows, text, right - wide(n)) {
+        listed(rules, given, marks, rows, text, right)
+    } else {
+        false
+    }
+}
+
+// The row of e where a loop (!e ~ ANY)* stands at `root` and e has a list.
+pub fn list_at(
+    rules: &[u32],
+    given: &[u8],
+    marks: &[u32],
+    rows: &[u32],
+    text: &[u8],
+    root: usize,
+) -> Loop
+    requires { ⌜ Hashed (now rules) (now given) (now marks) ⌝ }
+    requires { ⌜ Inside (now rows) (length (now text)) ⌝ }
+    requires { ⌜ Stands (now rows) root ⌝ }
+    ensures { λ a. ⌜ ((t : Table Span) (r : Expr Span) → now (rules .entry) ≡ ruleWords t → At (now (rows .entry)) root r → ListAnswer a (now (rows .entry)) (now (text .entry)) (byMarks (marksOf (resolveTable (now (given .entry)) t) (now (marks .entry)))) (resolve (now (text .entry)) r)) ⌝ }
+{
+    let Lookup::Row {
+        kind,
+        x: _,
+        y: _,
+        size: _,
+    } = rows::row_at(rows, root)
+    else {
+        return Loop::Nothing;
+    };
+    if kind != 11 {
+        return Loop::Nothing;
+    }
+    let Loop::Over(e) = in_loop(rows, text, root - 1) else {
+        return Loop::Nothing;
+    };
+    if listed(rules, given, marks, rows, text, e) {
+        Loop::Over(e)
+    } else {
+        Loop::Nothing
+    }
+}
+
+// Writes the strings of a literal: itself, or those of the rule that it names, through at most `fuel` rules.
+pub fn write_leaf(
+    given_rules: &[u32],
+    given_rows: &[u32],
+    given_text: &[u8],
+    marks: &[u32],
+    rows: &[u32],
+    text: &[u8],
+    root: usize,
+    fuel: usize,
+    out: &mut [u32],
+    lits: &mut [u8],
+    p: Place,
+) -> Wrote
+    requires { ⌜ Given (now «given_rules») (now «given_rows») (now «given_text») (now marks) ⌝ }
+    requires { ⌜ Inside (now rows) (length (now text)) ⌝ }
+    requires { ⌜ Spelled (now «given_rules») (now «given_rows») (now «given_text») (now rows) (now text) root fuel readLeft ⌝ }
+    requires { ⌜ Room p (now out) (now lits) ⌝ }
+    ensures { λ a. ⌜ ((t : Table Span) (r : Expr Span) (ss : List Bytes) → Lent (now («given_rules» .entry)) (now («given_rows» .entry)) t → At (now (rows .entry)) root r → Spells (resolveTable (now («given_text» .entry)) t) fuel (λ look. readLeft look (resolve (now (text .entry)) r)) ss → StrsAnswer a p ss (now (out .entry)) (now (out .exit)) (now (lits .entry)) (now (lits .exit))) ⌝ }
+{
+    let Lookup::Row {
+        kind,
+        x,
+        y,
+        size: _,
+    } = rows::row_at(rows, root)
+    else {
+        return Wrote::Full;
+    };
+    if kind == 0 {
+        return writing::put_lit(text, wide(x), wide(y), 0, out, lits, p);
+    }
+    let Found::At(i) = names::find_rule(given_rules, given_text, marks, text, wide(x), wide(y))
+    else {
+        return Wrote::Full;
+    };
+    let end = wide(marks[i * 4 + 3]);
+    write_list(
+        given_rules,
+        given_rows,
+        given_text,
+        marks,
+        given_rows,
+        given_text,
+        end - 1,
+        fuel - 1,
+        out,
+        lits,
+        p,
+    )
+}
+
+// Writes the strings of an expression that has a list, in reading order.
+pub fn write_list(
+    given_rules: &[u32],
+    given_rows: &[u32],
+    given_text: &[u8],
+    marks: &[u32],
+    rows: &[u32],
+    text: &[u8],
+    root: usize,
+    fuel: usize,
+    out: &mut [u32],
+    lits: &mut [u8],
+    p: Place,
+) -> Wrote
+    requires { ⌜ Given (now «given_rules») (now «given_rows») (now «given_text») (now marks) ⌝ }
+    requires { ⌜ Inside (now rows) (length (now text)) ⌝ }
+    requires { ⌜ Spelled (now «given_rules») (now «given_rows») (now «given_text») (now rows) (now text) root fuel readIn ⌝ }
+    requires { ⌜ Room p (now out) (now lits) ⌝ }
+    ensures { λ a. ⌜ ((t : Table Span) (r : Expr Span) (ss : List Bytes) → Lent (now («given_rules» .entry)) (now («given_rows» .entry)) t → At (now (rows .entry)) root r → Spells (resolveTable (now («given_text» .entry)) t) fuel (λ look. readIn look (resolve (now (text .entry)) r)) ss → StrsAnswer a p ss (now (out .entry)) (now (out .exit)) (now (lits .entry)) (now (lits .exit))) ⌝ }
+{
+    let Lookup::Row {
+        kind,
+        x: _,
+        y: _,
+        size: _,
+    } = rows::row_at(rows, root)
+    else {
+        return Wrote::Full;
+    };
+    if kind != 9 {
+        return write_leaf(
+            given_rules,
+            given_rows,
+            given_text,
+            marks,
+            rows,
+            text,
+            root,
+            fuel,
+            out,
+            lits,
+            p,
+        );
+    }
+    let right = root - 1;
+    let Lookup::Row {
+        kind: _,
+        x: _,
+        y: _,
+        size: n,
+    } = rows::row_at(rows, right)
+    else {
+        return Wrote::Full;
+    };
+    let left = right - wide(n);
+    let Wrote::Done(q) = write_leaf(
+        given_rules,
+        given_rows,
+        given_text,
+        marks,
+        rows,
+        text,
+        left,
+        fuel,
+        out,
+        lits,
+        p,
+    ) else {
+        return Wrote::Full;
+    };
+    write_list(
+        given_rules,
+        given_rows,
+        given_text,
+        marks,
+        rows,
+        text,
+        right,
+        fuel,
+        out,
+        lits,
+        q,
+    )
 }

@@ -81,7 +81,7 @@ leaf-read : (t : ℕ) (c : read-leaf-lts.After-known-told (calls-read-leaf t) (r
 leaf-read t c = row-found (sym (c .before .before .before .row-at .ensures) ∙ c .before .kind .given .1)
 
 leaf-first : (t : ℕ) (c : read-leaf-lts.After-known-told2 (calls-read-leaf t) (read-leaf-at t) read-leaf.Post) → let k = c .before .before .before .before .before .before .before .before .before .before .kind .given .0 in let a = c .before .before .before .before .before .before .before .before .before .before .before .before .before .before .before .before .before .args in First (length (a .rules .now) / 4) (a .rules .now) (a .text .now) (bytesAt (a .text .now) (k .1 .0, k .1 .1 .0)) (c .before .i .given .0 .0)
-leaf-first t c = finds-at _ _ _ (c .before .before .before .before .before .wide .ensures) (c .before .before .before .before .wide2 .ensures) (c .before .before .before .find-rule .ensures) (c .before .i .given .1)
+leaf-first t c = finds-at _ _ _ _ (c .before .before .before .before .before .wide .ensures) (c .before .before .before .before .wide2 .ensures) (c .before .before .before .find-rule .ensures) (c .before .i .given .1)
 
 -- src/lib.rt:84:9
 read-in-row-at-requires : (t : ℕ) → read-in-lts.Need-row-at-requires (calls-read-in t) (read-in-at t) read-in.Post
@@ -233,7 +233,7 @@ read-leaf-same-length t c = search needs
 
 -- src/lib.rt:63:9
 read-leaf-returns-4 : (t : ℕ) → read-leaf-lts.Need-returns-4 (calls-read-leaf t) (read-leaf-at t) read-leaf.Post
-read-leaf-returns-4 t c = (record { steady = steady-none _; least = omega arith }, λ u r l a. leaf-ident _ (leaf-read t (c .before .before .before .before .before .before .before .before)) a (c .before .before .before .before .before .before .if2 .left) (name-nothing u (l .heads) _ _ _ (finds-nothing _ _ _ (c .before .before .before .before .wide .ensures) (c .before .before .before .wide2 .ensures) (c .before .before .find-rule .ensures) (c .enum-told2 .given .1))))
+read-leaf-returns-4 t c = (record { steady = steady-none _; least = omega arith }, λ u r l a. leaf-ident _ (leaf-read t (c .before .before .before .before .before .before .before .before)) a (c .before .before .before .before .before .before .if2 .left) (name-nothing u (l .heads) _ _ _ (finds-nothing _ _ _ _ (c .before .before .before .before .wide .ensures) (c .before .before .before .wide2 .ensures) (c .before .before .find-rule .ensures) (c .enum-told2 .given .1))))
 
 -- src/lib.rt:65:22
 read-leaf-mul-mark : (t : ℕ) → read-leaf-lts.Need-mul-mark (calls-read-leaf t) (read-leaf-at t) read-leaf.Post
