@@ -1,7 +1,7 @@
 -- A reading of rows, arm by arm: a leaf, a rule, a Choice. Assumes nothing.
 use mathlib.Core.Path.{_≡_, refl, sym, ap, _∙_, subst}
 use mathlib.Core.List.{List}
-use mathlib.Core.Option.{some}
+use mathlib.Core.Option.{none, some}
 use Prim.Native.Nat.{ℕ, _+_, _-_, _*_, _/_, _≤_, _<_}
 use native.Mathlib.Omega.{arith}
 use lib.ListN.{length, getD, set, getElem?, length-set}
@@ -19,7 +19,7 @@ use Rattle.rows.proofs.Views.{TwoView, as-lit, as-two, lit-is, two-is}
 use Rattle.names.specs.Names.{Hashed, Ended, First, Finds}
 use Rattle.names.specs.declared.Found.{Found as Found′}
 use Rattle.names.specs.declared.Found.the-variants.{At as Sited, Nothing}
-use Rattle.names.proofs.Finding.{There, there, rule-count, rule-words, looked, body-at}
+use Rattle.names.proofs.Finding.{There, there, rule-count, rule-words, looked, not-found, body-at}
 use Rattle.skipper.specs.Memory.{Known, Reads}
 use Rattle.skipper.specs.Lends.{indexFrom, marksOf, Lent, Given, Steady, Ran, ReadsOf}
 use Rattle.skipper.proofs.Memories.{Monotone, left-mono, reads-plain, reads-marked, reads-unknown, reads-then, reads-stop, reads-rule}
@@ -108,6 +108,9 @@ module _ {rules : List ℕ} (t : Table Span) (heads : rules ≡ ruleWords t) whe
     unfolding marksOf
     nothing-mark n = rw (index-nothing 0 t s x (λ j h e. n j (omega (arith, count)) (rw heads e)))
 
+    pub name-missing : Finds (length rules / 4) rules s x Nothing → find (resolveTable s t) x ≡ none
+    name-missing n = not-found s x t (rw heads at n)
+
     pub name-nothing : Finds (length rules / 4) rules s x Nothing → ReadsOf s t m m 2 (λ look. look x)
     name-nothing n = record { read = λ known. reads-unknown x known (nothing-mark n) }
 
@@ -142,6 +145,9 @@ module _ {rules : List ℕ} (t : Table Span) (heads : rules ≡ ruleWords t) whe
 module _ {rules rows : List ℕ} {t : Table Span} (lent : Lent rules rows t) where
   pub rule-stands : {m : List ℕ} (k : ℕ) (r : There t k) → k < length rules / 4 → Ended rules m → At rows (getD m (k * 4 + 3) 0 - 1) (r .rule .body)
   rule-stands k r h d = rw (lent .trees, d .end k h, lent .heads) (body-at t k (r .rule) (r .is))
+
+  pub rule-before : {m : List ℕ} (k : ℕ) (r : There t k) → k < length rules / 4 → Ended rules m → (end : ℕ) → end ≡ getD m (k * 4 + 3) 0 → At rows (end - 1) (r .rule .body)
+  rule-before k r h d end e = rw e (rule-stands k r h d)
 
   pub rule-end : {m : List ℕ} (k : ℕ) → k < length rules / 4 → Ended rules m → 1 ≤ getD m (k * 4 + 3) 0
   rule-end k h d =

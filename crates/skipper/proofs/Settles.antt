@@ -68,7 +68,7 @@ loops-at : {s : Bytes} {t : Table Span} {m m′ : List ℕ} {a : ℕ} (e : E) (o
 unfolding openAt
 loops-at e o h l = rw h l
 
-loop-no-rep : (e : E) → asRep e ≡ none → loopOver e ≡ none
+pub loop-no-rep : (e : E) → asRep e ≡ none → loopOver e ≡ none
 unfolding loopOver
 loop-no-rep e h = rw h
 

@@ -8,21 +8,29 @@ use native.Mathlib.Omega.{arith}
 use lib.ListN.{length, getD, length-append}
 use lib.Dec.{eqb}
 use Rattle.grammar.specs.Basic.{Bytes, member}
-use Rattle.grammar.specs.Tree.{Lit, Str, Insens, Ident, Seq, Choice, E, Expr, lit, fixed, skip, un, bin}
+use Rattle.grammar.specs.Tree.{Lit, Str, Insens, Ident, Seq, Choice, Rep, E, Expr, lit, fixed, skip, un, bin}
 use Rattle.grammar.specs.Rows.{Span}
 use Rattle.grammar.specs.Text.{bytesAt, resolve, joined}
 use Rattle.grammar.specs.Table.{Table, find}
-use Rattle.grammar.specs.Lists.{Reading, nothing, strings, again, andThen, readFound, readLeft, readIn, readName}
-use Rattle.grammar.proofs.Logic.{none-some, eqb-eq}
+use Rattle.grammar.specs.Lists.{Reading, nothing, strings, again, andThen, readFound, readLeft, readIn, readName, loopOver}
+use Rattle.grammar.proofs.Logic.{none-some, some-eq, eqb-eq}
 use Rattle.rows.specs.Rows.{At}
 use Rattle.rows.proofs.Laws.{Found, root}
 use Rattle.rows.proofs.Cells.{lit-shape}
-use Rattle.rows.proofs.Views.{as-lit, lit-is, two-is}
-use Rattle.writing.specs.Writes.{Fit}
+use Rattle.rows.proofs.Views.{as-lit, lit-is, two-is, one-none}
+use Rattle.writing.specs.Writes.{Areas, Room, Fit, LitAnswer, StrsAnswer}
 use Rattle.writing.specs.declared.Place.{Place}
+use Rattle.writing.specs.declared.Wrote.{Wrote}
+use Rattle.writing.specs.declared.Wrote.the-variants.{Done, Full}
+use Rattle.writing.proofs.Puts.{put-done, put-full, put-room}
+use Rattle.writing.proofs.Trees.{strs-one, strs-append}
 use Rattle.skipper.specs.Memory.{byMark}
-use Rattle.skipper.specs.Skips.{isList, Spells}
+use Rattle.skipper.specs.Loops.{LoopAnswer}
+use Rattle.skipper.specs.Skips.{isList, ListAnswer, Spells}
+use Rattle.skipper.specs.declared.Loop.{Loop}
+use Rattle.skipper.specs.declared.Loop.the-variants.{Over, Nothing}
 use Rattle.skipper.proofs.Leaf.{choice-view, choice-left}
+use Rattle.skipper.proofs.Settles.{loop-no-rep, rep-view, rep-is, loop-over}
 
 -- Whether there is a list
 
@@ -155,10 +163,46 @@ spell-split {t} {m} {l} {e} {ss} o h = go (readLeft (readName m t o) l) (readIn 
 pub spell-choice : (s : Bytes) {t : Table Bytes} {m : ℕ} {ss : List Bytes} {w : List ℕ} {i k x y n : ℕ} {r : Expr Span} (f : Found w i k x y n) (a : At w i r) (z : k ≡ 9) → Spells t m (λ look. readIn look (resolve s r)) ss → Split t m (resolve s (choice-view f a z .left)) (resolve s (choice-view f a z .right)) ss
 spell-choice s {t} {m} f a z h = spell-split (h .opened) (sym (choice-read s (readName m t (h .opened)) f a z) ∙ h .reads)
 
+-- what the writing of a string says
+pub str-wrote : {ss : List Bytes} {u v : Bytes} (a : Wrote) (p : Place) (o o′ t t′ : List ℕ) → u ≡ v → v ∷ [] ≡ ss → LitAnswer a p 0 u o o′ t t′ → StrsAnswer a p ss o o′ t t′
+str-wrote {v = v} a p o o′ t t′ d e h = rw (← e) (strs-one a p v o o′ t t′ (rw d at h))
+
 -- what does not fit does not fit with more after it
 joined-length : (ss ts : List Bytes) → length (joined (ss ++ ts)) ≡ length (joined ss) + length (joined ts)
 joined-length [] ts = omega arith
 joined-length (s ∷ ss) ts = omega (arith, length-append s (joined (ss ++ ts)), length-append s (joined ss), joined-length ss ts)
 
-pub strs-front : {p : Place} {o t : List ℕ} (ss ts us : List Bytes) → ss ++ ts ≡ us → Fit p (length us) (length (joined us)) o t → Fit p (length ss) (length (joined ss)) o t
+-- the strings of a left side that were written, and those of the right side after them
+module _ (p : Place) {q : Place} {z : Wrote} (o o₁ t t₁ : List ℕ) (ss : List Bytes) (d : z ≡ Done q) (h : StrsAnswer z p ss o o₁ t t₁) where
+  pub strs-room : Areas o t → Room q o₁ t₁
+  strs-room a = put-room (put-done p _ _ _ o o₁ t t₁ d h) a
+
+  pub strs-both : {us : List Bytes} (a : Wrote) (ts : List Bytes) (o₂ t₂ : List ℕ) → ss ++ ts ≡ us → StrsAnswer a q ts o₁ o₂ t₁ t₂ → StrsAnswer a p us o o₂ t t₂
+  strs-both a ts o₂ t₂ e g = rw (← e) (strs-append ss (put-done p _ _ _ o o₁ t t₁ d h) a ts o₂ t₂ g)
+
+strs-front : {p : Place} {o t : List ℕ} (ss ts us : List Bytes) → ss ++ ts ≡ us → Fit p (length us) (length (joined us)) o t → Fit p (length ss) (length (joined ss)) o t
 strs-front ss ts us e f = record { rows = omega (arith, f .rows, ap length e, length-append ss ts); text = omega (arith, f .text, ap (λ (v : List Bytes). length (joined v)) e, joined-length ss ts) }
+
+-- Which loops have a list
+module _ (s : Bytes) (look : Bytes → Reading) {w : List ℕ} {i k x y n : ℕ} {r : Expr Span} (f : Found w i k x y n) (a : At w i r) where
+  no-list : loopOver (resolve s r) ≡ none → ListAnswer Nothing w s look (resolve s r)
+  no-list h e d = none-some (sym h ∙ d)
+
+  pub list-no-rep : (k ≡ 11 → ⊥) → ListAnswer Nothing w s look (resolve s r)
+  list-no-rep z = no-list (loop-no-rep (resolve s r) (one-none s 11 f a z))
+
+  module _ (z : k ≡ 11) {b : Loop} (h : LoopAnswer b w s (loopOver (un Rep (resolve s (rep-view s f a z .child))))) where
+    pub list-no-loop : b ≡ Nothing → ListAnswer Nothing w s look (resolve s r)
+    list-no-loop e = no-list (rep-is s f a z ∙ rw e at h)
+
+    pub list-yes : {j : ℕ} → b ≡ Over j → ((q : Expr Span) → At w j q → isList (readIn look (resolve s q)) ≡ true) → ListAnswer (Over j) w s look (resolve s r)
+    list-yes e g = let o = loop-over s f a z h e in record { tree = o .tree; at = o .at; is = rep-is s f a z ∙ o .is; list = g (o .tree) (o .at) }
+
+    pub list-no : {j : ℕ} → b ≡ Over j → ((q : Expr Span) → At w j q → isList (readIn look (resolve s q)) ≡ false) → ListAnswer Nothing w s look (resolve s r)
+    list-no e g c d =
+        let o = loop-over s f a z h e in
+        let q : resolve s (o .tree) ≡ c = some-eq (resolve s (o .tree)) c (sym (rep-is s f a z ∙ o .is) ∙ d) in
+        rw (← q) (g (o .tree) (o .at))
+
+pub strs-over : (p : Place) {z : Wrote} (o o₁ t t₁ : List ℕ) (ss ts us : List Bytes) → z ≡ Full → StrsAnswer z p ss o o₁ t t₁ → ss ++ ts ≡ us → Fit p (length us) (length (joined us)) o t → ⊥
+strs-over p o o₁ t t₁ ss ts us d h e f = put-full p _ _ _ o o₁ t t₁ d h (strs-front ss ts us e f)

@@ -103,8 +103,7 @@ listed-leaf-listed-requires-2 t c κs = let s = c .before .before .before .befor
 -- src/lib.rt:428:9
 listed-listed-requires : (t : ℕ) → listed-lts.Need-listed-requires (calls-listed t) (listed-at t) listed.Post
 listed-listed-requires t c κs = let s = c .before .before .before .before .before .before .before .before .before .before .before .before .before .before .before .before .before in
-    let v = choice-view (here t (c .before .before .before .before .before .before .before .before)) (s .pre .1 .1 .1 .at) (c .before .before .before .before .before .before .before .if1 .left) in
-    (
+    let v = choice-view (here t (c .before .before .before .before .before .before .before .before)) (s .pre .1 .1 .1 .at) (c .before .before .before .before .before .before .before .if1 .left) in (
       omega (arith, s .pre .0, root (s .pre .1 .1 .1 .at) .rows, root (v .atRight) .rows, v .rows, v .leastLeft, found-size (here t (c .before .before .before .before .before .before .before .before)) (s .pre .1 .1 .1 .at)),
       (s .pre .1 .0, (s .pre .1 .1 .0, record { tree = v .right; at = v .atRight })),
     )
@@ -112,16 +111,16 @@ listed-listed-requires t c κs = let s = c .before .before .before .before .befo
 -- src/lib.rt:392:1
 listed-returns-4 : (t : ℕ) → listed-lts.Need-returns-4 (calls-listed t) (listed-at t) listed.Post
 listed-returns-4 t c = λ u r l a.
-        let v = choice-view (here t (c .before .before .before .before .before .before .before .before .before)) a (c .before .before .before .before .before .before .before .before .if1 .left) in
-        let x = sym (c .before .before .leaf-listed2 .ensures u (v .left) l (choice-left (here t (c .before .before .before .before .before .before .before .before .before)) a (c .before .before .before .before .before .before .before .before .if1 .left) (right t (c .before .before .before .before)) (c .before .before .before .wide .ensures))) ∙ c .before .if2 .taken in
-        sym (list-choice _ _ (here t (c .before .before .before .before .before .before .before .before .before)) a (c .before .before .before .before .before .before .before .before .if1 .left) ∙ ap₂ _&&_ x (sym (c .listed .ensures u (v .right) l (v .atRight))))
+    let v = choice-view (here t (c .before .before .before .before .before .before .before .before .before)) a (c .before .before .before .before .before .before .before .before .if1 .left) in
+    let x = sym (c .before .before .leaf-listed2 .ensures u (v .left) l (choice-left (here t (c .before .before .before .before .before .before .before .before .before)) a (c .before .before .before .before .before .before .before .before .if1 .left) (right t (c .before .before .before .before)) (c .before .before .before .wide .ensures))) ∙ c .before .if2 .taken in
+    sym (list-choice _ _ (here t (c .before .before .before .before .before .before .before .before .before)) a (c .before .before .before .before .before .before .before .before .if1 .left) ∙ ap₂ _&&_ x (sym (c .listed .ensures u (v .right) l (v .atRight))))
 
 -- src/lib.rt:392:1
 listed-returns-5 : (t : ℕ) → listed-lts.Need-returns-5 (calls-listed t) (listed-at t) listed.Post
 listed-returns-5 t c = λ u r l a.
-        let v = choice-view (here t (c .before .before .before .before .before .before .before .before)) a (c .before .before .before .before .before .before .before .if1 .left) in
-        let x = sym (c .before .leaf-listed2 .ensures u (v .left) l (choice-left (here t (c .before .before .before .before .before .before .before .before)) a (c .before .before .before .before .before .before .before .if1 .left) (right t (c .before .before .before)) (c .before .before .wide .ensures))) ∙ c .if2 .left in
-        sym (list-choice _ _ (here t (c .before .before .before .before .before .before .before .before)) a (c .before .before .before .before .before .before .before .if1 .left) ∙ and-stop _ _ x)
+    let v = choice-view (here t (c .before .before .before .before .before .before .before .before)) a (c .before .before .before .before .before .before .before .if1 .left) in
+    let x = sym (c .before .leaf-listed2 .ensures u (v .left) l (choice-left (here t (c .before .before .before .before .before .before .before .before)) a (c .before .before .before .before .before .before .before .if1 .left) (right t (c .before .before .before)) (c .before .before .wide .ensures))) ∙ c .if2 .left in
+    sym (list-choice _ _ (here t (c .before .before .before .before .before .before .before .before)) a (c .before .before .before .before .before .before .before .if1 .left) ∙ and-stop _ _ x)
 
 pub +listed-spec : {M : Type 1} → statement M
 +listed-spec = close μ-listed λ t. listed-lts.spec (calls-listed t)
