@@ -7,3 +7,4 @@ pub mod Settles
 pub mod Rotation
 pub mod Tables
 pub mod Spelling
+pub mod Skipping

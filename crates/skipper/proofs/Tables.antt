@@ -33,11 +33,11 @@ use Rattle.skipper.proofs.Leaf.{count, rule-there, rule-stands}
 use Rattle.skipper.proofs.Settles.{idle-grows, loops-none, open-mono}
 use Rattle.skipper.proofs.Rotation.{rotated-rules, meets-is}
 
-or-first : (a b : Bool) → (a || b) ≡ false → a ≡ false
+pub or-first : (a b : Bool) → (a || b) ≡ false → a ≡ false
 or-first true b h = h
 or-first false b h = refl
 
-or-second : (a b : Bool) → (a || b) ≡ false → b ≡ false
+pub or-second : (a b : Bool) → (a || b) ≡ false → b ≡ false
 or-second true b h = absurd (false≢true (sym h))
 or-second false b h = h
 
@@ -179,7 +179,7 @@ index-below i k (r ∷ rs) x h = go (sameBytes (r .name) x) h (index-below (suc 
 abbrev pub cleared : ℕ → List ℕ → List ℕ
 cleared n m = marked (λ _. 0) 1 n m
 
-length-table : (s : Bytes) (t : Table Span) → length (resolveTable s t) ≡ length t
+pub length-table : (s : Bytes) (t : Table Span) → length (resolveTable s t) ≡ length t
 length-table s [] = refl
 length-table s (r ∷ t) = ap suc (length-table s t)
 

@@ -2,7 +2,7 @@
 // where 1 says that it came to a rule that is being read.
 ghost use mathlib.Core.Path.{_≡_};
 ghost use mathlib.Core.List.{List};
-ghost use Prim.Native.Nat.{ℕ, _+_, _-_, _*_, _/_, _≤_, _<_};
+ghost use Prim.Native.Nat.{ℕ, _+_, _-_, _*_, _/_, _^_, _≤_, _<_};
 ghost use mathlib.Core.Option.{some};
 ghost use lib.ListN.{length, getD, getElem?};
 ghost use Rattle.grammar.specs.Basic.{Bytes, any};
@@ -12,13 +12,14 @@ ghost use Rattle.grammar.specs.Text.{bytesAt, resolve};
 ghost use Rattle.grammar.specs.Table.{Table, Rule, ruleWords, resolveRule, resolveTable};
 ghost use Rattle.grammar.specs.Lists.{strings, readLeft, readIn, loopOver, skipList};
 ghost use Rattle.grammar.specs.Steps.{rotate, isAtomic, topDown, orSame, skip?, skipTo};
-ghost use Rattle.rows.specs.Rows.{Inside, At, Stands};
-ghost use Rattle.writing.specs.Writes.{Room, StrsAnswer, Answer};
+ghost use Rattle.rows.specs.Rows.{Inside, At, Stands, kindAt};
+ghost use Rattle.writing.specs.Writes.{Room, RowAnswer, StrsAnswer, Answer};
 ghost use Rattle.names.specs.Names.{First, Hashed, marked};
 ghost use Rattle.skipper.specs.Memory.{byMarks};
 ghost use Rattle.skipper.specs.Lends.{marksOf, Given, Lent, Ran, ReadsOf};
 ghost use Rattle.skipper.specs.Loops.{LoopAnswer, TreeRows, openAt, ruleOpen, LoopsOf};
 ghost use Rattle.skipper.specs.Lists.{ListsAnswer};
+ghost use Rattle.skipper.specs.declared.Node.the-variants.{Single, Pair};
 ghost use Rattle.skipper.specs.Skips.{nodeOf, isList, ListAnswer, Spells, Spelled, Skipped, Settles, Settling};
 use names::Found;
 use rows::Lookup;
@@ -602,4 +603,274 @@ pub fn write_list(
         lits,
         q,
     )
+}
+
+// Writes the root row over what stands from p to q.
+pub fn put_node(out: &mut [u32], p: Place, q: Place, kind: u32, x: u32, y: u32) -> Wrote
+    requires { ⌜ (p .rows ≤ q .rows) × (q .rows + 1 < 2 ^ 32) ⌝ }
+    ensures { λ a. ⌜ RowAnswer a q (kind, x, y) (q .rows - p .rows + 1) (now (out .entry)) (now (out .exit)) ⌝ }
+{
+    let n = q.rows - p.rows + 1;
+    writing::put_row(out, q, kind, x, y, n as u32)
+}
+
+// Writes the Skip of a loop's expression that has a list.
+pub fn write_skip(
+    given_rules: &[u32],
+    given_rows: &[u32],
+    given_text: &[u8],
+    marks: &[u32],
+    rows: &[u32],
+    text: &[u8],
+    root: usize,
+    out: &mut [u32],
+    lits: &mut [u8],
+    p: Place,
+) -> Wrote
+    requires { ⌜ Given (now «given_rules») (now «given_rows») (now «given_text») (now marks) ⌝ }
+    requires { ⌜ Inside (now rows) (length (now text)) ⌝ }
+    requires { ⌜ Skipped (now «given_rules») (now «given_rows») (now «given_text») (now rows) (now text) root ⌝ }
+    requires { ⌜ Room p (now out) (now lits) ⌝ }
+    ensures { λ a. ⌜ ((t : Table Span) (r : Expr Span) (ss : List Bytes) → Lent (now («given_rules» .entry)) (now («given_rows» .entry)) t → At (now (rows .entry)) root r → skipList (resolveTable (now («given_text» .entry)) t) (resolve (now (text .entry)) r) ≡ strings ss → Answer a p (skip ss) (now (out .entry)) (now (out .exit)) (now (lits .entry)) (now (lits .exit))) ⌝ }
+{
+    let fuel = given_rules.len() / 4 + 1;
+    let Wrote::Done(q) = write_list(
+        given_rules,
+        given_rows,
+        given_text,
+        marks,
+        rows,
+        text,
+        root,
+        fuel,
+        out,
+        lits,
+        p,
+    ) else {
+        return Wrote::Full;
+    };
+    let n = q.rows - p.rows;
+    put_node(out, p, q, 17, n as u32, 0)
+}
+
+// Step 2 at a row with one child.
+pub fn skip_one(
+    given_rules: &[u32],
+    given_rows: &[u32],
+    given_text: &[u8],
+    marks: &[u32],
+    rows: &[u32],
+    text: &[u8],
+    root: usize,
+    out: &mut [u32],
+    lits: &mut [u8],
+    p: Place,
+) -> Wrote
+    requires { ⌜ Given (now «given_rules») (now «given_rows») (now «given_text») (now marks) ⌝ }
+    requires { ⌜ Inside (now rows) (length (now text)) ⌝ }
+    requires { ⌜ Settling (now «given_rules») (now «given_rows») (now «given_text») (now marks) (now rows) (now text) root ⌝ }
+    requires { ⌜ nodeOf (kindAt (now rows) root) ≡ Single ⌝ }
+    requires { ⌜ Room p (now out) (now lits) ⌝ }
+    ensures { λ a. ⌜ ((t : Table Span) (r : Expr Span) → Lent (now («given_rules» .entry)) (now («given_rows» .entry)) t → At (now (rows .entry)) root r → Settles (resolveTable (now («given_text» .entry)) t) (now (marks .entry)) (resolve (now (text .entry)) r) → Answer a p (topDown (orSame (skip? (resolveTable (now («given_text» .entry)) t))) (resolve (now (text .entry)) r)) (now (out .entry)) (now (out .exit)) (now (lits .entry)) (now (lits .exit))) ⌝ }
+{
+    match list_at(given_rules, given_text, marks, rows, text, root) {
+        Loop::Over(e) => write_skip(
+            given_rules,
+            given_rows,
+            given_text,
+            marks,
+            rows,
+            text,
+            e,
+            out,
+            lits,
+            p,
+        ),
+        Loop::Nothing => {
+            let Lookup::Row {
+                kind,
+                x,
+                y,
+                size: _,
+            } = rows::row_at(rows, root)
+            else {
+                return Wrote::Full;
+            };
+            let Wrote::Done(q) = skip_tree(
+                given_rules,
+                given_rows,
+                given_text,
+                marks,
+                rows,
+                text,
+                root - 1,
+                out,
+                lits,
+                p,
+            ) else {
+                return Wrote::Full;
+            };
+            put_node(out, p, q, kind, x, y)
+        }
+    }
+}
+
+// Step 2 at a row with two children.
+pub fn skip_two(
+    given_rules: &[u32],
+    given_rows: &[u32],
+    given_text: &[u8],
+    marks: &[u32],
+    rows: &[u32],
+    text: &[u8],
+    root: usize,
+    kind: u32,
+    out: &mut [u32],
+    lits: &mut [u8],
+    p: Place,
+) -> Wrote
+    requires { ⌜ Given (now «given_rules») (now «given_rows») (now «given_text») (now marks) ⌝ }
+    requires { ⌜ Inside (now rows) (length (now text)) ⌝ }
+    requires { ⌜ Settling (now «given_rules») (now «given_rows») (now «given_text») (now marks) (now rows) (now text) root ⌝ }
+    requires { ⌜ (kind ≡ kindAt (now rows) root) × (nodeOf kind ≡ Pair) ⌝ }
+    requires { ⌜ Room p (now out) (now lits) ⌝ }
+    ensures { λ a. ⌜ ((t : Table Span) (r : Expr Span) → Lent (now («given_rules» .entry)) (now («given_rows» .entry)) t → At (now (rows .entry)) root r → Settles (resolveTable (now («given_text» .entry)) t) (now (marks .entry)) (resolve (now (text .entry)) r) → Answer a p (topDown (orSame (skip? (resolveTable (now («given_text» .entry)) t))) (resolve (now (text .entry)) r)) (now (out .entry)) (now (out .exit)) (now (lits .entry)) (now (lits .exit))) ⌝ }
+{
+    let right = root - 1;
+    let Lookup::Row {
+        kind: _,
+        x: _,
+        y: _,
+        size: n,
+    } = rows::row_at(rows, right)
+    else {
+        return Wrote::Full;
+    };
+    let left = right - wide(n);
+    let Wrote::Done(q) = skip_tree(
+        given_rules,
+        given_rows,
+        given_text,
+        marks,
+        rows,
+        text,
+        left,
+        out,
+        lits,
+        p,
+    ) else {
+        return Wrote::Full;
+    };
+    let Wrote::Done(s) = skip_tree(
+        given_rules,
+        given_rows,
+        given_text,
+        marks,
+        rows,
+        text,
+        right,
+        out,
+        lits,
+        q,
+    ) else {
+        return Wrote::Full;
+    };
+    put_node(out, p, s, kind, 0, 0)
+}
+
+// Step 2 from the top of a subtree, as it stands after step 1, with lists looked up in the table as it was given.
+pub fn skip_tree(
+    given_rules: &[u32],
+    given_rows: &[u32],
+    given_text: &[u8],
+    marks: &[u32],
+    rows: &[u32],
+    text: &[u8],
+    root: usize,
+    out: &mut [u32],
+    lits: &mut [u8],
+    p: Place,
+) -> Wrote
+    requires { ⌜ Given (now «given_rules») (now «given_rows») (now «given_text») (now marks) ⌝ }
+    requires { ⌜ Inside (now rows) (length (now text)) ⌝ }
+    requires { ⌜ Settling (now «given_rules») (now «given_rows») (now «given_text») (now marks) (now rows) (now text) root ⌝ }
+    requires { ⌜ Room p (now out) (now lits) ⌝ }
+    ensures { λ a. ⌜ ((t : Table Span) (r : Expr Span) → Lent (now («given_rules» .entry)) (now («given_rows» .entry)) t → At (now (rows .entry)) root r → Settles (resolveTable (now («given_text» .entry)) t) (now (marks .entry)) (resolve (now (text .entry)) r) → Answer a p (topDown (orSame (skip? (resolveTable (now («given_text» .entry)) t))) (resolve (now (text .entry)) r)) (now (out .entry)) (now (out .exit)) (now (lits .entry)) (now (lits .exit))) ⌝ }
+{
+    let Lookup::Row {
+        kind,
+        x: _,
+        y: _,
+        size: _,
+    } = rows::row_at(rows, root)
+    else {
+        return Wrote::Full;
+    };
+    match node_of(kind) {
+        Node::Leaf => writing::copy(rows, text, root, out, lits, p),
+        Node::Single => skip_one(
+            given_rules,
+            given_rows,
+            given_text,
+            marks,
+            rows,
+            text,
+            root,
+            out,
+            lits,
+            p,
+        ),
+        Node::Pair => skip_two(
+            given_rules,
+            given_rows,
+            given_text,
+            marks,
+            rows,
+            text,
+            root,
+            kind,
+            out,
+            lits,
+            p,
+        ),
+    }
+}
+
+// Step 2 of a rule's expression, as it stands after step 1: "Atomic only".
+pub fn skip(
+    given_rules: &[u32],
+    given_rows: &[u32],
+    given_text: &[u8],
+    marks: &[u32],
+    rows: &[u32],
+    text: &[u8],
+    root: usize,
+    rule_type: u32,
+    out: &mut [u32],
+    lits: &mut [u8],
+    p: Place,
+) -> Wrote
+    requires { ⌜ Given (now «given_rules») (now «given_rows») (now «given_text») (now marks) ⌝ }
+    requires { ⌜ Inside (now rows) (length (now text)) ⌝ }
+    requires { ⌜ Stands (now rows) root ⌝ }
+    requires { ⌜ («rule_type» ≡ 2 → Settling (now «given_rules») (now «given_rows») (now «given_text») (now marks) (now rows) (now text) root) ⌝ }
+    requires { ⌜ Room p (now out) (now lits) ⌝ }
+    ensures { λ a. ⌜ ((t : Table Span) (r : Expr Span) → Lent (now («given_rules» .entry)) (now («given_rows» .entry)) t → At (now (rows .entry)) root r → («rule_type» ≡ 2 → Settles (resolveTable (now («given_text» .entry)) t) (now (marks .entry)) (resolve (now (text .entry)) r)) → Answer a p (skipTo (resolveTable (now («given_text» .entry)) t) «rule_type» (resolve (now (text .entry)) r)) (now (out .entry)) (now (out .exit)) (now (lits .entry)) (now (lits .exit))) ⌝ }
+{
+    if rule_type == 2 {
+        skip_tree(
+            given_rules,
+            given_rows,
+            given_text,
+            marks,
+            rows,
+            text,
+            root,
+            out,
+            lits,
+            p,
+        )
+    } else {
+        writing::copy(rows, text, root, out, lits, p)
+    }
 }
