@@ -5,6 +5,7 @@ use mathlib.Core.List.{List, [], _∷_}
 use mathlib.Core.Option.{Option, none, some}
 use Prim.Native.Nat.{ℕ, suc, _+_, _-_, _*_, _/_, _^_, _≤_, _<_}
 use native.Mathlib.Omega.{arith}
+use borrow.Author.Tests.{ne-eqb}
 use lib.ListN.{length}
 use Rattle.grammar.specs.Basic.{Bytes, _>>=_, orElse}
 use Rattle.grammar.specs.Tree.{E, Expr, lit, fixed, skip, un, bin, size, anyNode}
@@ -270,3 +271,13 @@ module _ {z : Wrote} (p : Place) (ss : List Bytes) (o o₁ b b₁ : List ℕ) (h
     skip-done a o₂ r =
         let n : q .rows - p .rows ≡ length ss = omega (arith, put .rows) in
         skip-tree ss put a (17, q .rows - p .rows, 0) (q .rows - p .rows + 1) o₂ (rw n) (rw n) r
+
+-- "Atomic only"
+module _ (t : Table Bytes) (n : ℕ) (e : E) where
+  pub skip-atomic : n ≡ 2 → skipTo t n e ≡ skipped t e
+  unfolding skipTo
+  skip-atomic h = rw h
+
+  pub skip-other : (n ≡ 2 → ⊥) → skipTo t n e ≡ e
+  unfolding skipTo
+  skip-other h = rw (ne-eqb n 2 h)
