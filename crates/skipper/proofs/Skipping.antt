@@ -1,19 +1,20 @@
 -- Step 2, node by node: on trees, and of what was read and written. Assumes nothing.
 use mathlib.Core.Path.{_≡_, refl, sym, ap, ap₂, _∙_, subst}
-use mathlib.Core.Bool.{false≢true, Bool, true, false, _||_}
+use mathlib.Core.Bool.{false≢true, Bool, true, false, _&&_, _||_}
 use mathlib.Core.List.{List, [], _∷_}
 use mathlib.Core.Option.{Option, none, some}
-use Prim.Native.Nat.{ℕ, suc, _+_, _-_, _*_, _/_, _^_, _≤_, _<_}
+use Prim.Native.Nat.{ℕ, zero, suc, _+_, _-_, _*_, _/_, _^_, _≤_, _<_}
 use native.Mathlib.Omega.{arith}
 use borrow.Author.Tests.{ne-eqb}
-use lib.ListN.{length}
-use Rattle.grammar.specs.Basic.{Bytes, _>>=_, orElse}
+use lib.ListN.{length, getElem?}
+use Rattle.grammar.specs.Basic.{Bytes, _>>=_, any, orElse}
 use Rattle.grammar.specs.Tree.{E, Expr, lit, fixed, skip, un, bin, size, anyNode}
 use Rattle.grammar.specs.Rows.{Span, strRows}
 use Rattle.grammar.specs.Text.{resolve, joined, spans}
-use Rattle.grammar.specs.Table.{Table, resolveTable}
+use Rattle.grammar.specs.Table.{Table, Rule, resolveTable}
 use Rattle.grammar.specs.Lists.{Reading, nothing, strings, again, readIn, readName, loopOver, skipList, asStrings, isAgain}
-use Rattle.grammar.specs.Steps.{children, topDown, orSame, skip?, skipTo}
+use Rattle.grammar.specs.Steps.{children, isAtomic, rotate, topDown, orSame, skip?, skipTo}
+use Rattle.grammar.proofs.Logic.{none-some, some-eq}
 use Rattle.grammar.proofs.TopDown.{skip-step}
 use Rattle.rows.specs.declared.Shape.{Shape}
 use Rattle.rows.specs.declared.Shape.the-variants.{Lit, Num, One, Two, Skips}
@@ -28,7 +29,7 @@ use Rattle.writing.proofs.Puts.{put-done, put-full}
 use Rattle.writing.proofs.Trees.{done-written, full-not, written-room, un-tree, bin-tree, fits-un, fits-left, fits-right, skip-tree, fits-strs}
 use Rattle.skipper.specs.Memory.{markOf, nameList, byMarks, Known}
 use Rattle.skipper.specs.Lends.{marksOf, Lent}
-use Rattle.skipper.specs.Lists.{unreadIn, unreadAt}
+use Rattle.skipper.specs.Lists.{unreadIn, unreadAt, Lists}
 use Rattle.skipper.specs.Skips.{nodeBy, nodeOf, isList, ListAt, ListAnswer, Spells, Settles}
 use Rattle.skipper.specs.declared.Loop.{Loop}
 use Rattle.skipper.specs.declared.Loop.the-variants.{Over, Nothing}
@@ -281,3 +282,16 @@ module _ (t : Table Bytes) (n : ℕ) (e : E) where
   pub skip-other : (n ≡ 2 → ⊥) → skipTo t n e ≡ e
   unfolding skipTo
   skip-other h = rw (ne-eqb n 2 h)
+
+-- the lists of a table that were read settle every loop of a rotated Atomic rule
+any-none : (p : Rule Bytes → Bool) (t : Table Bytes) (j : ℕ) (r : Rule Bytes) → any p t ≡ false → getElem? t j ≡ some r → p r ≡ false
+any-none p [] j r h e = none-some e
+any-none p (q ∷ t) zero r h e = let d : q ≡ r = some-eq q r e in rw (← d) (or-first (p q) (any p t) h)
+any-none p (q ∷ t) (suc j) r h e = any-none p t j r (or-second (p q) (any p t) h) e
+
+pub lists-settle : {t : Table Bytes} {m : List ℕ} (j : ℕ) (r : Rule Bytes) → Lists t m → getElem? t j ≡ some r → r .type ≡ 2 → Settles t m (rotate (r .body))
+lists-settle {t} {m} j r l e a =
+    record {
+      known = l .known;
+      settled = rw a at (any-none (λ r. isAtomic (r .type) && anyNode (unreadAt (byMarks (marksOf t m))) (rotate (r .body))) t j r (l .settled) e);
+    }

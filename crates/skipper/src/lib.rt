@@ -166,9 +166,9 @@ pub fn read_leaves(rules: &[u32], rows: &[u32], text: &[u8], marks: &mut [u32], 
     else {
         return AGAIN;
     };
-    let a = read_leaves(rules, rows, text, marks, right - wide(n));
-    if a != LIST {
-        return a;
+    let first = read_leaves(rules, rows, text, marks, right - wide(n));
+    if first != LIST {
+        return first;
     }
     read_leaves(rules, rows, text, marks, right)
 }
