@@ -1,0 +1,2 @@
+-- Refusals 2 to 6 of a lent table.
+pub mod Local

@@ -1,0 +1,1 @@
+// Refusals 2 to 6 of a lent table.
