@@ -1,0 +1,2 @@
+-- What a search for a change of the stack remembers and says.
+pub mod Search
