@@ -1,1 +1,5 @@
+pub mod Memories
 pub mod Settles
+pub mod Marks
+pub mod Runs
+pub mod Visits
