@@ -3,3 +3,4 @@ pub mod Settles
 pub mod Marks
 pub mod Runs
 pub mod Visits
+pub mod Ends

@@ -11,6 +11,7 @@ use Rattle.grammar.specs.Basic.{Bytes, sameBytes}
 use Rattle.grammar.specs.Tree.{E}
 use Rattle.grammar.specs.Table.{Rule, Table}
 use Rattle.grammar.specs.Stack.{Reaches, changesIn}
+use Rattle.names.specs.Names.{marked}
 
 -- the memory of rule i in the marks m
 abbrev pub stateOf : List ℕ → ℕ → ℕ
@@ -63,6 +64,24 @@ pub record Looks (t : Table Bytes) (m m′ : List ℕ) (i : ℕ) (b : Bool) : Ty
   pub yes : b ≡ true → stateOf m′ i ≡ 3
   pub quiet : b ≡ false → isQuiet (stateOf m′ i) ≡ true
   pub closed : b ≡ false → Closed t m m′
+
+-- what a memory becomes when a search ends
+abbrev pub turnedTo : ℕ → ℕ → ℕ
+turnedTo to s = cond (eqb s 1) to s
+
+abbrev pub withTurned : ℕ → ℕ → List ℕ → List ℕ
+withTurned to n m = marked (λ i. turnedTo to (stateOf m i)) 1 n m
+
+-- between searches: none has seen anything
+pub record Rested (t : Table Bytes) (m : List ℕ) : Type 0 where
+  pub right : Right t m
+  pub idle : (i : ℕ) → i < length t → stateOf m i ≡ 1 → ⊥
+
+-- rule i is settled, and what was settled stays so
+pub record RuleSettled (t : Table Bytes) (m m′ : List ℕ) (i : ℕ) : Type 0 where
+  pub rested : Rested t m′
+  pub here : 2 ≤ stateOf m′ i
+  pub kept : (j : ℕ) → 2 ≤ stateOf m j → stateOf m′ j ≡ stateOf m j
 
 -- every rule is settled
 pub record Settled (t : Table Bytes) (m : List ℕ) : Type 0 where

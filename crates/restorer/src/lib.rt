@@ -7,8 +7,9 @@ ghost use Rattle.grammar.specs.Rows.{Span};
 ghost use Rattle.grammar.specs.Text.{resolve};
 ghost use Rattle.grammar.specs.Table.{Table, resolveTable};
 ghost use Rattle.rows.specs.Rows.{At, Stands};
-ghost use Rattle.restorer.specs.Search.{Right, Answers, Looks};
-ghost use Rattle.restorer.specs.Lends.{Lent, Given, Ran, TreeRows};
+ghost use Rattle.names.specs.Names.{marked};
+ghost use Rattle.restorer.specs.Search.{Right, Answers, Looks, turnedTo, withTurned, Rested, RuleSettled};
+ghost use Rattle.restorer.specs.Lends.{Lent, Marked, Given, Steady, Ran, TreeRows, Settles};
 ghost use Rattle.restorer.specs.Walks.{stepFrom, GoesOn, Visited};
 use names::Found;
 use rows::Lookup;
@@ -121,4 +122,71 @@ pub fn walk(
         i = j;
     }
     false
+}
+
+// What a rule's memory becomes when a search ends: `to` where the search has seen it.
+fn turned(state: u32, to: u32) -> u32
+    ensures { λ r. ⌜ r ≡ turnedTo to state ⌝ }
+{
+    if state == SEEN { to } else { state }
+}
+
+// Ends a search: the rules that it has seen turn to `to`.
+fn turn(marks: &mut [u32], count: usize, to: u32)
+    requires { ⌜ count * 4 ≤ length (now marks) ⌝ }
+    ensures { λ _. ⌜ now (marks .exit) ≡ withTurned to count (now (marks .entry)) ⌝ }
+{
+    let mut i = 0;
+    while i < count {
+        let at = i * 4 + 1;
+        marks[at] = turned(marks[at], to);
+        i += 1;
+    }
+}
+
+// Forgets what is known of the rules.
+fn forget(marks: &mut [u32], count: usize)
+    requires { ⌜ count * 4 ≤ length (now marks) ⌝ }
+    ensures { λ _. ⌜ now (marks .exit) ≡ marked (λ _. 0) 1 count (now (marks .entry)) ⌝ }
+{
+    let mut i = 0;
+    while i < count {
+        marks[i * 4 + 1] = UNSEEN;
+        i += 1;
+    }
+}
+
+// Settles rule i. A "no" that was found while another rule was open is settled only where the whole search ends in "no".
+fn settle_rule(rules: &[u32], rows: &[u32], text: &[u8], marks: &mut [u32], i: usize)
+    requires { ⌜ Given (now rules) (now rows) (now text) (now marks) ⌝ }
+    requires { ⌜ i < length (now rules) / 4 ⌝ }
+    ensures { λ _. ⌜ Steady (now (marks .entry)) (now (marks .exit)) ⌝ }
+    ensures { λ _. ⌜ ((t : Table Span) → Lent t (now (rules .entry)) (now (rows .entry)) → Rested (resolveTable (now (text .entry)) t) (now (marks .entry)) → RuleSettled (resolveTable (now (text .entry)) t) (now (marks .entry)) (now (marks .exit)) i) ⌝ }
+{
+    if marks[i * 4 + 1] != UNSEEN {
+        return;
+    }
+    let count = rules.len() / 4;
+    if look(rules, rows, text, marks, i) {
+        turn(marks, count, UNSEEN);
+    } else {
+        turn(marks, count, NO);
+    }
+}
+
+// Settles every rule of the table: whether the stack can change through it.
+pub fn settle(rules: &[u32], rows: &[u32], text: &[u8], marks: &mut [u32])
+    requires { ⌜ Marked (now rules) (now rows) (now text) (now marks) ⌝ }
+    requires { ⌜ length (now rows) < 2 ^ 32 ⌝ }
+    ensures { λ _. ⌜ Given (now (rules .entry)) (now (rows .entry)) (now (text .entry)) (now (marks .exit)) ⌝ }
+    ensures { λ _. ⌜ Settles (now (rules .entry)) (now (rows .entry)) (now (text .entry)) (now (marks .exit)) ⌝ }
+{
+    names::mark_ends(rules, marks);
+    let count = rules.len() / 4;
+    forget(marks, count);
+    let mut i = 0;
+    while i < count {
+        settle_rule(rules, rows, text, marks, i);
+        i += 1;
+    }
 }
