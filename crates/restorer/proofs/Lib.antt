@@ -4,3 +4,5 @@ pub mod Marks
 pub mod Runs
 pub mod Visits
 pub mod Ends
+pub mod Showing
+pub mod Restores

@@ -2,3 +2,4 @@
 pub mod Search
 pub mod Lends
 pub mod Walks
+pub mod Restores

@@ -1,19 +1,31 @@
 // Restore. A rule's memory is word 1 of its mark: 0 not seen, 1 seen in this search, 2 the stack cannot change through it, 3 it can.
 ghost use mathlib.Core.Path.{_≡_};
+ghost use mathlib.Core.Bool.{false, _||_};
 ghost use Prim.Native.Nat.{ℕ, _+_, _-_, _*_, _/_, _^_, _≤_, _<_};
 ghost use lib.ListN.{length, getD};
 ghost use Rattle.grammar.specs.Tree.{Expr};
 ghost use Rattle.grammar.specs.Rows.{Span};
 ghost use Rattle.grammar.specs.Text.{resolve};
 ghost use Rattle.grammar.specs.Table.{Table, resolveTable};
-ghost use Rattle.rows.specs.Rows.{At, Stands};
-ghost use Rattle.names.specs.Names.{marked};
+ghost use Rattle.grammar.specs.Tree as tree;
+ghost use Rattle.grammar.specs.Basic.{Bytes};
+ghost use Rattle.grammar.specs.Text.{bytesAt};
+ghost use Rattle.grammar.specs.Stack.{changes};
+ghost use Rattle.grammar.specs.Steps as steps;
+ghost use Rattle.rows.specs.Rows.{Inside, At, Stands, shapeOf};
+ghost use Rattle.rows.specs.declared.Shape.the-variants.{One, Two};
+ghost use Rattle.writing.specs.Writes.{Room, Answer};
+ghost use Rattle.names.specs.Names.{marked, Hashed};
 ghost use Rattle.restorer.specs.Search.{Right, Answers, Looks, turnedTo, withTurned, Rested, RuleSettled};
 ghost use Rattle.restorer.specs.Lends.{Lent, Marked, Given, Steady, Ran, TreeRows, Settles};
 ghost use Rattle.restorer.specs.Walks.{stepFrom, GoesOn, Visited};
+ghost use Rattle.restorer.specs.Restores.{isGuard, showsThrough, guardedIf, Sure, Known, RowIs, RestoredAnswer, Over, NodeAnswer};
 use names::Found;
 use rows::Lookup;
+use rows::Shape;
 use rows::wide;
+use writing::Place;
+use writing::Wrote;
 
 const UNSEEN: u32 = 0;
 
@@ -189,4 +201,284 @@ pub fn settle(rules: &[u32], rows: &[u32], text: &[u8], marks: &mut [u32])
         settle_rule(rules, rows, text, marks, i);
         i += 1;
     }
+}
+
+// The place after a tree that was written, with whether the stack can change through it; or Full where it does not fit.
+pub enum Restored {
+    To(Place, bool),
+    Full,
+}
+
+// Whether what is below a row of this kind gets RestoreOnErr: Opt, Rep and Choice.
+fn guards(kind: u32) -> bool
+    ensures { λ r. ⌜ r ≡ isGuard kind ⌝ }
+{
+    if kind == 9 {
+        return true;
+    }
+    if kind == 10 {
+        return true;
+    }
+    kind == 11
+}
+
+// What shows through a row of this kind, where b shows below it.
+fn shows(kind: u32, b: bool) -> bool
+    ensures { λ r. ⌜ r ≡ showsThrough kind b ⌝ }
+{
+    if kind == 18 {
+        return true;
+    }
+    if kind == 19 {
+        return false;
+    }
+    b
+}
+
+// Whether either shows.
+fn either(a: bool, b: bool) -> bool
+    ensures { λ r. ⌜ r ≡ (a || b) ⌝ }
+{
+    if a {
+        return true;
+    }
+    b
+}
+
+// Writes a row over what stands from p to q, of which b shows.
+fn node(out: &mut [u32], p: Place, q: Place, kind: u32, x: u32, y: u32, b: bool) -> Restored
+    requires { ⌜ Over p q (now out) ⌝ }
+    ensures { λ a. ⌜ NodeAnswer a p q (kind, x, y) b (now (out .entry)) (now (out .exit)) ⌝ }
+{
+    let n = q.rows - p.rows + 1;
+    let Wrote::Done(s) = writing::put_row(out, q, kind, x, y, n as u32) else {
+        return Restored::Full;
+    };
+    let c = shows(kind, b);
+    Restored::To(s, c)
+}
+
+// Whether the stack can change through the name of n bytes at x.
+fn through(rules: &[u32], marks: &[u32], text: &[u8], x: usize, n: usize) -> bool
+    requires { ⌜ Hashed (now rules) (now text) (now marks) ⌝ }
+    requires { ⌜ x + n ≤ length (now text) ⌝ }
+    ensures { λ b. ⌜ ((t : Table Bytes) → Sure t (now (rules .entry)) (now (text .entry)) (now (marks .entry)) → b ≡ changes t (tree.lit tree.Ident (bytesAt (now (text .entry)) (x, n)))) ⌝ }
+{
+    if names::changes_stack(text, x, n) {
+        return true;
+    }
+    let Found::At(i) = names::find_rule(rules, text, marks, text, x, n) else {
+        return false;
+    };
+    marks[i * 4 + 1] == YES
+}
+
+// Writes a literal at p.
+fn literal(
+    rules: &[u32],
+    marks: &[u32],
+    text: &[u8],
+    kind: u32,
+    x: u32,
+    y: u32,
+    out: &mut [u32],
+    lits: &mut [u8],
+    p: Place,
+) -> Restored
+    requires { ⌜ Hashed (now rules) (now text) (now marks) ⌝ }
+    requires { ⌜ x + y ≤ length (now text) ⌝ }
+    requires { ⌜ Room p (now out) (now lits) ⌝ }
+    ensures { λ a. ⌜ ((t : Table Bytes) (k : tree.Lit) → Sure t (now (rules .entry)) (now (text .entry)) (now (marks .entry)) → kind ≡ tree.litKind k → RestoredAnswer a p t (tree.lit k (bytesAt (now (text .entry)) (x, y))) (now (out .entry)) (now (out .exit)) (now (lits .entry)) (now (lits .exit))) ⌝ }
+{
+    let offset = wide(x);
+    let n = wide(y);
+    let Wrote::Done(q) = writing::put_lit(text, offset, n, kind, out, lits, p) else {
+        return Restored::Full;
+    };
+    if kind != 3 {
+        return Restored::To(q, false);
+    }
+    let b = through(rules, marks, text, offset, n);
+    Restored::To(q, b)
+}
+
+// Writes a row of numbers, or a Skip with its strings, at p: nothing shows of it.
+fn plain(
+    rows: &[u32],
+    text: &[u8],
+    root: usize,
+    out: &mut [u32],
+    lits: &mut [u8],
+    p: Place,
+) -> Restored
+    requires { ⌜ Inside (now rows) (length (now text)) ⌝ }
+    requires { ⌜ Stands (now rows) root ⌝ }
+    requires { ⌜ Room p (now out) (now lits) ⌝ }
+    ensures { λ a. ⌜ ((t : Table Bytes) (r : Expr Span) → At (now (rows .entry)) root r → changes t (resolve (now (text .entry)) r) ≡ false → RestoredAnswer a p t (resolve (now (text .entry)) r) (now (out .entry)) (now (out .exit)) (now (lits .entry)) (now (lits .exit))) ⌝ }
+{
+    let Wrote::Done(q) = writing::copy(rows, text, root, out, lits, p) else {
+        return Restored::Full;
+    };
+    Restored::To(q, false)
+}
+
+// Writes the subtree of row `root` at p, restored, and if `guard` under a RestoreOnErr where the stack can change through it.
+pub fn child(
+    rules: &[u32],
+    marks: &[u32],
+    rows: &[u32],
+    text: &[u8],
+    root: usize,
+    guard: bool,
+    out: &mut [u32],
+    lits: &mut [u8],
+    p: Place,
+) -> Restored
+    requires { ⌜ Known (now rules) (now marks) (now rows) (now text) ⌝ }
+    requires { ⌜ Stands (now rows) root ⌝ }
+    requires { ⌜ Room p (now out) (now lits) ⌝ }
+    ensures { λ a. ⌜ ((t : Table Bytes) (r : Expr Span) → Sure t (now (rules .entry)) (now (text .entry)) (now (marks .entry)) → At (now (rows .entry)) root r → RestoredAnswer a p t (guardedIf t guard (steps.restore t (resolve (now (text .entry)) r))) (now (out .entry)) (now (out .exit)) (now (lits .entry)) (now (lits .exit))) ⌝ }
+{
+    let Restored::To(q, b) = put(rules, marks, rows, text, root, out, lits, p) else {
+        return Restored::Full;
+    };
+    if guard {
+        if b {
+            return node(out, p, q, 19, 0, 0, b);
+        }
+    }
+    Restored::To(q, b)
+}
+
+// Writes the subtree of row `root`, which has one child, at p.
+pub fn one(
+    rules: &[u32],
+    marks: &[u32],
+    rows: &[u32],
+    text: &[u8],
+    root: usize,
+    kind: u32,
+    x: u32,
+    y: u32,
+    out: &mut [u32],
+    lits: &mut [u8],
+    p: Place,
+) -> Restored
+    requires { ⌜ Known (now rules) (now marks) (now rows) (now text) ⌝ }
+    requires { ⌜ Stands (now rows) root ⌝ }
+    requires { ⌜ Room p (now out) (now lits) ⌝ }
+    requires { ⌜ RowIs (now rows) root kind x y × (shapeOf kind ≡ One) ⌝ }
+    ensures { λ a. ⌜ ((t : Table Bytes) (r : Expr Span) → Sure t (now (rules .entry)) (now (text .entry)) (now (marks .entry)) → At (now (rows .entry)) root r → RestoredAnswer a p t (steps.restore t (resolve (now (text .entry)) r)) (now (out .entry)) (now (out .exit)) (now (lits .entry)) (now (lits .exit))) ⌝ }
+{
+    let guard = guards(kind);
+    let Restored::To(q, b) = child(rules, marks, rows, text, root - 1, guard, out, lits, p) else {
+        return Restored::Full;
+    };
+    node(out, p, q, kind, x, y, b)
+}
+
+// Writes the subtree of row `root`, which has two children, at p.
+pub fn two(
+    rules: &[u32],
+    marks: &[u32],
+    rows: &[u32],
+    text: &[u8],
+    root: usize,
+    kind: u32,
+    out: &mut [u32],
+    lits: &mut [u8],
+    p: Place,
+) -> Restored
+    requires { ⌜ Known (now rules) (now marks) (now rows) (now text) ⌝ }
+    requires { ⌜ Stands (now rows) root ⌝ }
+    requires { ⌜ Room p (now out) (now lits) ⌝ }
+    requires { ⌜ RowIs (now rows) root kind 0 0 × (shapeOf kind ≡ Two) ⌝ }
+    ensures { λ a. ⌜ ((t : Table Bytes) (r : Expr Span) → Sure t (now (rules .entry)) (now (text .entry)) (now (marks .entry)) → At (now (rows .entry)) root r → RestoredAnswer a p t (steps.restore t (resolve (now (text .entry)) r)) (now (out .entry)) (now (out .exit)) (now (lits .entry)) (now (lits .exit))) ⌝ }
+{
+    let right = root - 1;
+    let Lookup::Row {
+        kind: _,
+        x: _,
+        y: _,
+        size: n,
+    } = rows::row_at(rows, right)
+    else {
+        return Restored::Full;
+    };
+    let guard = guards(kind);
+    let Restored::To(q, b) = child(
+        rules,
+        marks,
+        rows,
+        text,
+        right - wide(n),
+        guard,
+        out,
+        lits,
+        p,
+    ) else {
+        return Restored::Full;
+    };
+    let Restored::To(s, c) = child(rules, marks, rows, text, right, guard, out, lits, q) else {
+        return Restored::Full;
+    };
+    let shown = either(b, c);
+    node(out, p, s, kind, 0, 0, shown)
+}
+
+// Writes the subtree of row `root` at p, restored, and tells what shows of it.
+pub fn put(
+    rules: &[u32],
+    marks: &[u32],
+    rows: &[u32],
+    text: &[u8],
+    root: usize,
+    out: &mut [u32],
+    lits: &mut [u8],
+    p: Place,
+) -> Restored
+    requires { ⌜ Known (now rules) (now marks) (now rows) (now text) ⌝ }
+    requires { ⌜ Stands (now rows) root ⌝ }
+    requires { ⌜ Room p (now out) (now lits) ⌝ }
+    ensures { λ a. ⌜ ((t : Table Bytes) (r : Expr Span) → Sure t (now (rules .entry)) (now (text .entry)) (now (marks .entry)) → At (now (rows .entry)) root r → RestoredAnswer a p t (steps.restore t (resolve (now (text .entry)) r)) (now (out .entry)) (now (out .exit)) (now (lits .entry)) (now (lits .exit))) ⌝ }
+{
+    let Lookup::Row {
+        kind,
+        x,
+        y,
+        size: _,
+    } = rows::row_at(rows, root)
+    else {
+        return Restored::Full;
+    };
+    match rows::shape_of(kind) {
+        Shape::Lit => literal(rules, marks, text, kind, x, y, out, lits, p),
+        Shape::Num => plain(rows, text, root, out, lits, p),
+        Shape::One => one(rules, marks, rows, text, root, kind, x, y, out, lits, p),
+        Shape::Two => two(rules, marks, rows, text, root, kind, out, lits, p),
+        Shape::Skips => plain(rows, text, root, out, lits, p),
+    }
+}
+
+// Step 7 on the subtree of row `root`, packed at p. The table is the one that is lent, and its rules are settled.
+pub fn restore(
+    rules: &[u32],
+    marks: &[u32],
+    rows: &[u32],
+    text: &[u8],
+    root: usize,
+    out: &mut [u32],
+    lits: &mut [u8],
+    p: Place,
+) -> Wrote
+    requires { ⌜ Marked (now rules) (now rows) (now text) (now marks) ⌝ }
+    requires { ⌜ Settles (now rules) (now rows) (now text) (now marks) ⌝ }
+    requires { ⌜ Stands (now rows) root ⌝ }
+    requires { ⌜ Room p (now out) (now lits) ⌝ }
+    ensures { λ a. ⌜ ((t : Table Span) (r : Expr Span) → Lent t (now (rules .entry)) (now (rows .entry)) → At (now (rows .entry)) root r → Answer a p (steps.restore (resolveTable (now (text .entry)) t) (resolve (now (text .entry)) r)) (now (out .entry)) (now (out .exit)) (now (lits .entry)) (now (lits .exit))) ⌝ }
+{
+    let Restored::To(q, _) = put(rules, marks, rows, text, root, out, lits, p) else {
+        return Wrote::Full;
+    };
+    Wrote::Done(q)
 }
