@@ -4,24 +4,24 @@ use mathlib.Core.Bool.{false≢true, Bool, true, false, cond}
 use mathlib.Core.List.{List, [], _∷_}
 use mathlib.Core.Option.{some}
 use mathlib.Core.Logic.{_⊎_, inl, inr}
-use Prim.Native.Nat.{ℕ, zero, suc, _+_, _-_, _*_, _/_, _^_, _≤_, _<_}
+use Prim.Native.Nat.{ℕ, zero, suc, _+_, _*_, _/_, _^_, _≤_, _<_}
 use native.Mathlib.Decide.{decLt}
 use native.Mathlib.Omega.{arith}
 use lib.ListN.{length, getD, set, getElem?}
 use lib.Dec.{eqb}
 use Rattle.grammar.specs.Basic.{Bytes}
 use Rattle.grammar.specs.Rows.{Span}
-use Rattle.grammar.specs.Table.{Rule, Table, rowCount, ruleWords, rowWords, resolveTable}
+use Rattle.grammar.specs.Table.{Rule, Table, rowCount, ruleWords, resolveTable}
 use Rattle.grammar.specs.Stack.{Reaches}
 use Rattle.grammar.proofs.Logic.{none-some, eqb-eq}
-use Rattle.names.specs.Names.{rowsBefore, marked, withEnds, Hashed, Ended}
+use Rattle.names.specs.Names.{rowsBefore, marked, withEnds}
 use Rattle.names.proofs.Finding.{rule-count, rows-before-all, length-rows}
 use Rattle.names.proofs.Marks.{length-marked, marked-other, marked-at, marked-step, hashed-ends, ended}
-use Rattle.restorer.specs.Search.{stateOf, Quiet, Right, Searches, Closed, Looks, turnedTo, withTurned, Rested, RuleSettled, Settled}
+use Rattle.restorer.specs.Search.{stateOf, Quiet, Right, Searches, Looks, turnedTo, withTurned, Rested, RuleSettled}
 use Rattle.restorer.specs.Lends.{Lent, Marked, Given, Steady, Settles}
 use Rattle.restorer.proofs.Memories.{quiet-state}
 use Rattle.restorer.proofs.Settles.{settles}
-use Rattle.restorer.proofs.Marks.{count, count-resolved, given-steady}
+use Rattle.restorer.proofs.Marks.{count-resolved, given-steady}
 
 -- ---- memories that are written
 

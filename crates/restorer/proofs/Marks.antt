@@ -2,22 +2,21 @@
 use mathlib.Core.Path.{_≡_, refl, sym, ap, _∙_}
 use mathlib.Core.Bool.{Bool, true, false, cond}
 use mathlib.Core.List.{List, [], _∷_}
-use mathlib.Core.Option.{some}
 use Prim.Native.Nat.{ℕ, zero, suc, _+_, _-_, _*_, _/_, _≤_, _<_}
 use native.Mathlib.Omega.{arith}
-use lib.ListN.{length, getD, set, getElem?, length-set}
+use lib.ListN.{length, getD, set}
 use lib.Seq.{getD-set-other}
 use lib.Dec.{eqb}
 use Rattle.grammar.specs.Basic.{Bytes}
 use Rattle.grammar.specs.Tree.{size}
 use Rattle.grammar.specs.Rows.{Span}
-use Rattle.grammar.specs.Table.{Rule, Table, resolveTable}
+use Rattle.grammar.specs.Table.{Table, resolveTable}
 use Rattle.grammar.proofs.Logic.{eqb-eq}
 use Rattle.rows.specs.Rows.{At}
 use Rattle.rows.proofs.Laws.{root, size-pos}
-use Rattle.names.specs.Names.{Hashed, Ended}
+use Rattle.names.specs.Names.{Ended}
 use Rattle.names.proofs.Finding.{There, there, rule-count, rule-words, body-at}
-use Rattle.restorer.specs.Lends.{Lent, Marked, Given, zeros, Steady, Ran, TreeRows}
+use Rattle.restorer.specs.Lends.{Lent, Given, zeros, Steady, Ran, TreeRows}
 use Rattle.restorer.proofs.Memories.{length-resolved}
 
 -- ---- how many words are 0

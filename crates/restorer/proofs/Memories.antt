@@ -1,18 +1,18 @@
 -- The memory of names, and what stays quiet. Assumes nothing.
-use mathlib.Core.Path.{_≡_, refl, sym, ap, _∙_, subst}
-use mathlib.Core.Bool.{false≢true, Bool, true, false, _&&_, _||_, not, cond}
+use mathlib.Core.Path.{_≡_, refl, sym, ap, _∙_}
+use mathlib.Core.Bool.{false≢true, Bool, true, false, _&&_, _||_, not}
 use mathlib.Core.List.{List, [], _∷_}
-use mathlib.Core.Option.{Option, none, some}
+use mathlib.Core.Option.{none, some}
 use mathlib.Core.Logic.{_⊎_, inl, inr}
-use Prim.Native.Nat.{ℕ, zero, suc, _+_, _*_, _/_, _≤_, _<_}
+use Prim.Native.Nat.{ℕ, zero, suc, _+_, _≤_, _<_}
 use native.Mathlib.Nat.{add-zero}
 use native.Mathlib.Omega.{arith}
-use lib.ListN.{length, getD, getElem?}
+use lib.ListN.{length, getElem?}
 use lib.Dec.{eqb}
 use Rattle.grammar.specs.Basic.{Bytes, member, sameBytes}
-use Rattle.grammar.specs.Tree.{E, Lit, Str, Insens, Ident, Un, lit, fixed, skip, un, bin, isUn}
+use Rattle.grammar.specs.Tree.{E, Str, Insens, Ident, lit, fixed, skip, un, bin, isUn}
 use Rattle.grammar.specs.Rows.{Span}
-use Rattle.grammar.specs.Text.{bytesAt, resolve}
+use Rattle.grammar.specs.Text.{bytesAt}
 use Rattle.grammar.specs.Table.{Rule, Table, find, resolveRule, resolveTable}
 use Rattle.grammar.specs.Stack.{stackNames, changesIn}
 use Rattle.grammar.proofs.Logic.{none-some, some-eq, eqb-eq, sameBytes-eq, eq-sameBytes}

@@ -2,7 +2,7 @@
 use mathlib.Core.Path.{_≡_, refl, sym, ap, ap₂, _∙_, subst}
 use mathlib.Core.Bool.{Bool, true, false, _||_}
 use mathlib.Core.List.{List}
-use Prim.Native.Nat.{ℕ, _+_, _-_, _*_, _/_, _≤_, _<_}
+use Prim.Native.Nat.{ℕ, _+_, _-_, _/_}
 use native.Mathlib.Omega.{arith}
 use lib.ListN.{length}
 use Rattle.grammar.specs.Basic.{Bytes, member}
@@ -21,15 +21,13 @@ use Rattle.writing.specs.Writes.{Areas, RowPut, RowAnswer, LitAnswer, Fits, Wri
 use Rattle.writing.specs.declared.Place.{Place}
 use Rattle.writing.specs.declared.Wrote.{Wrote}
 use Rattle.writing.specs.declared.Wrote.the-variants.{Done, Full as NoRoom}
-use Rattle.writing.proofs.Puts.{row-done, row-full}
+use Rattle.writing.proofs.Puts.{row-done}
 use Rattle.writing.proofs.Trees.{lit-tree, un-tree, bin-tree, done-written, full-not, fits-un, fits-left, fits-right, written-room}
 use Rattle.names.specs.Names.{Finds}
 use Rattle.names.specs.declared.Found.{Found as Found′}
-use Rattle.names.specs.declared.Found.the-variants.{At as Sited, Nothing}
 use Rattle.restorer.specs.Restores.{isGuard, guardedIf, showsThrough, saysFound, Sure, RowIs, Shown, RestoredAnswer, Over, NodePut, NodeAnswer}
 use Rattle.restorer.specs.declared.Restored.{Restored}
 use Rattle.restorer.specs.declared.Restored.the-variants.{To, Full}
-use Rattle.restorer.proofs.Memories.{or-no-left}
 use Rattle.restorer.proofs.Showing.{changes-un, changes-bin, changes-lit, changes-fixed, changes-skip, restore-lit, restore-fixed, restore-skip, restore-un, restore-bin, guarded-yes, guarded-no, guarded-not}
 
 -- ---- an answer that is known

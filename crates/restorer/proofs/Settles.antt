@@ -1,6 +1,6 @@
 -- A search that ends in no settles all it saw; one that ends in yes settles the rules then open. Assumes nothing.
 use mathlib.Core.Path.{_≡_, refl, sym, ap, _∙_, subst}
-use mathlib.Core.Bool.{false≢true, Bool, true, false, _&&_, _||_, not}
+use mathlib.Core.Bool.{false≢true, Bool, true, false, _&&_, not}
 use mathlib.Core.List.{List}
 use mathlib.Core.Option.{some}
 use mathlib.Core.Logic.{_⊎_, inl, inr}
@@ -14,8 +14,8 @@ use Rattle.grammar.specs.Tree.{E, Un, un, isUn}
 use Rattle.grammar.specs.Table.{Rule, Table}
 use Rattle.grammar.specs.Stack.{stackNames, Reaches, at-push, at-name, through, down, left, right, changesIn}
 use Rattle.grammar.proofs.Logic.{none-some, some-eq, or-left}
-use Rattle.restorer.specs.Search.{stateOf, memoryOf, isQuiet, loud, Quiet, Right, Searches, Closed, Answers, Looks}
-use Rattle.restorer.proofs.Memories.{or-no-left, or-no-right, quiet-state, not-loud, quiet-at, Unknown, Known, known, searches-none}
+use Rattle.restorer.specs.Search.{stateOf, memoryOf, isQuiet, loud, Quiet, Right, Answers, Looks}
+use Rattle.restorer.proofs.Memories.{or-no-left, or-no-right, quiet-state, not-loud, Unknown, Known, known, searches-none}
 
 clash : {P : Type 0} {b : Bool} → b ≡ true → b ≡ false → P
 clash p q = absurd (false≢true (sym q ∙ p))

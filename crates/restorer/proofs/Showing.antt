@@ -4,9 +4,9 @@ use mathlib.Core.Bool.{false≢true, Bool, true, false, _||_, cond}
 use mathlib.Core.List.{List}
 use mathlib.Core.Option.{some}
 use mathlib.Core.Logic.{_⊎_, inl, inr}
-use Prim.Native.Nat.{ℕ, zero, suc, _+_, _*_, _/_, _≤_, _<_}
+use Prim.Native.Nat.{ℕ, zero, suc, _/_, _<_}
 use native.Mathlib.Omega.{arith}
-use lib.ListN.{length, getElem?}
+use lib.ListN.{length}
 use lib.Dec.{eqb}
 use Rattle.grammar.specs.Basic.{Bytes, member}
 use Rattle.grammar.specs.Tree.{Lit, Str, Insens, Ident, Fixed, Un, PosPred, NegPred, Opt, Rep, RepOnce, Push, RestoreOnErr, RepExact, RepMin, RepMax, RepMinMax, Bin, Seq, Choice, E, lit, fixed, skip, un, bin, litKind, unHead, binKind}
@@ -14,12 +14,12 @@ use Rattle.grammar.specs.Rows.{Span}
 use Rattle.grammar.specs.Table.{Table, find, resolveRule, resolveTable}
 use Rattle.grammar.specs.Stack.{stackNames, Reaches, at-push, at-name, through, down, left, right, changes}
 use Rattle.grammar.specs.Steps.{guarded, restoreAt, restore}
-use Rattle.grammar.proofs.Logic.{none-some, some-eq, or-case, or-left, or-right, eqb-eq, eqb-self}
+use Rattle.grammar.proofs.Logic.{none-some, some-eq, or-case, or-left, or-right, eqb-eq}
 use Rattle.grammar.proofs.Stacks.{changes-is}
 use Rattle.writing.specs.Writes.{Fits}
 use Rattle.writing.specs.declared.Place.{Place}
 use Rattle.writing.proofs.Trees.{fits-un}
-use Rattle.names.specs.Names.{First, Finds}
+use Rattle.names.specs.Names.{Finds}
 use Rattle.names.specs.declared.Found.{Found}
 use Rattle.names.specs.declared.Found.the-variants.{At, Nothing}
 use Rattle.names.proofs.Finding.{Looked, looked, not-found}

@@ -1,13 +1,12 @@
 -- The visit of a row: a row that is no Ident by its kind, an Ident by its name and its rule. Assumes nothing.
-use mathlib.Core.Path.{_≡_, refl, sym, ap, _∙_, subst}
-use mathlib.Core.Bool.{Bool, true, false, _||_, not}
+use mathlib.Core.Path.{_≡_, refl, sym, ap, _∙_}
+use mathlib.Core.Bool.{Bool, true, false, not}
 use mathlib.Core.List.{List, [], _∷_}
-use mathlib.Core.Option.{some}
-use Prim.Native.Nat.{ℕ, _+_, _-_, _*_, _/_, _≤_, _<_}
+use Prim.Native.Nat.{ℕ, _+_, _-_, _/_, _≤_, _<_}
 use native.Mathlib.Omega.{arith}
-use lib.ListN.{length, getElem?}
+use lib.ListN.{length}
 use Rattle.grammar.specs.Basic.{Bytes, member}
-use Rattle.grammar.specs.Tree.{Lit, Str, Insens, Ident, Fixed, Range, PeekSlice, PeekFrom, Un, PosPred, NegPred, Opt, Rep, RepOnce, Push, RestoreOnErr, RepExact, RepMin, RepMax, RepMinMax, Bin, Seq, Choice, Expr, lit, fixed, skip, un, bin, litKind, fixedHead, unHead, binKind, size}
+use Rattle.grammar.specs.Tree.{Str, Insens, Ident, Range, PeekSlice, PeekFrom, Un, PosPred, NegPred, Opt, Rep, RepOnce, Push, RestoreOnErr, RepExact, RepMin, RepMax, RepMinMax, Bin, Seq, Choice, Expr, lit, fixed, skip, un, bin, unHead, size}
 use Rattle.grammar.specs.Rows.{Span}
 use Rattle.grammar.specs.Text.{bytesAt, resolve}
 use Rattle.grammar.specs.Table.{Table, resolveRule, resolveTable}
@@ -20,11 +19,10 @@ use Rattle.names.specs.Names.{nameOf, First, Finds}
 use Rattle.names.specs.declared.Found.{Found as Found′}
 use Rattle.names.specs.declared.Found.the-variants.{At as Sited, Nothing}
 use Rattle.names.proofs.Finding.{Looked, looked, not-found, name-is}
-use Rattle.restorer.specs.Search.{stateOf, memoryOf, isQuiet, loud, Right, Searches, Looks}
+use Rattle.restorer.specs.Search.{stateOf, memoryOf, isQuiet, loud, Right, Looks}
 use Rattle.restorer.specs.Lends.{Lent}
 use Rattle.restorer.specs.Walks.{Run, below, changesAt, stepFrom, Changing, Passing, Visited, GoesOn}
 use Rattle.restorer.specs.declared.Step.{Step}
-use Rattle.restorer.specs.declared.Step.the-variants.{Changes, Next}
 use Rattle.restorer.proofs.Memories.{or-no, quiet-at, memory-none, memory-first, rule-resolved, searches-none, closed-none}
 
 -- ---- a row that is no Ident

@@ -1,8 +1,8 @@
-// Restore. A rule's memory is word 1 of its mark: 0 not seen, 1 seen in this search, 2 the stack cannot change through it, 3 it can.
+// Restore: whether the stack can change through each rule of a table, and step 7 on a subtree. A rule's memory is word 1 of its mark: 0 not seen, 1 seen in this search, 2 the stack cannot change through it, 3 it can.
 ghost use mathlib.Core.Path.{_≡_};
 ghost use mathlib.Core.Bool.{false, _||_};
-ghost use Prim.Native.Nat.{ℕ, _+_, _-_, _*_, _/_, _^_, _≤_, _<_};
-ghost use lib.ListN.{length, getD};
+ghost use Prim.Native.Nat.{_+_, _-_, _*_, _/_, _^_, _≤_, _<_};
+ghost use lib.ListN.{length};
 ghost use Rattle.grammar.specs.Tree.{Expr};
 ghost use Rattle.grammar.specs.Rows.{Span};
 ghost use Rattle.grammar.specs.Text.{resolve};
@@ -229,10 +229,10 @@ fn shows(kind: u32, b: bool) -> bool
     if kind == 18 {
         return true;
     }
-    if kind == 19 {
-        return false;
+    if kind != 19 {
+        return b;
     }
-    b
+    false
 }
 
 // Whether either shows.

@@ -1,5 +1,6 @@
-use mathlib.Core.Path.{_≡_, refl, sym, ap, _∙_}
-use Prim.Native.Nat.{_+_, _-_, _*_, _≤_}
+-- A subtree is written by its children, guarded where they must be, and its root's row. The measure: the size of the subtree, three for each row. Assumes nothing.
+use mathlib.Core.Path.{sym, ap, _∙_}
+use Prim.Native.Nat.{_+_, _-_, _*_}
 use native.Mathlib.Omega.{arith}
 use Rattle.rows.specs.Rows.{sizeAt}
 use Rattle.rows.proofs.Laws.{Found, row-found, root, root-there, found-size}
@@ -89,78 +90,60 @@ put-read t c = row-found (sym (c .before .before .before .row-at .ensures) ∙ c
 two-right : (t : ℕ) (c : two-lts.After-known-told (calls-two t) (two-at t) two.Post) → let k = c .before .n .given .0 in Found (c .before .before .before .before .before .before .before .before .before .before .args .rows .now) (c .before .before .before .before .before .before .before .before .before .before .args .root - 1) (k .0) (k .1 .0) (k .1 .1 .0) (k .1 .1 .1 .0)
 two-right t c = row-found (sym (c .before .before .before .row-at .ensures) ∙ c .before .n .given .1)
 
--- src/lib.rt:350:30
 child-put-requires : (t : ℕ) → child-lts.Need-put-requires (calls-child t) (child-at t) child.Post
 child-put-requires t c κs = let s = c .before .before .before .before .before .before .before .before in (omega (arith, s .pre .0), s .pre .1)
 
--- src/lib.rt:350:22
 child-enum-known-q : (t : ℕ) → child-lts.Need-enum-known-q (calls-child t) (child-at t) child.Post
 child-enum-known-q t c = search needs
 
--- src/lib.rt:351:9
 child-enum-told : (t : ℕ) → child-lts.Need-enum-told (calls-child t) (child-at t) child.Post
 child-enum-told t c = search needs
 
--- src/lib.rt:351:9
 child-same-length : (t : ℕ) → child-lts.Need-same-length (calls-child t) (child-at t) child.Post
 child-same-length t c = search needs
 
--- src/lib.rt:351:9
 child-same-length-2 : (t : ℕ) → child-lts.Need-same-length-2 (calls-child t) (child-at t) child.Post
 child-same-length-2 t c = search needs
 
--- src/lib.rt:351:9
 child-returns : (t : ℕ) → child-lts.Need-returns (calls-child t) (child-at t) child.Post
 child-returns t c = λ u r su a f. no-room _ _ _ _ _ _ _ (c .enum-told .given .1) (c .before .before .before .before .before .before .put .ensures u r su a) (fits-guarded u _ _ f)
 
--- src/lib.rt:355:13
 child-node-requires : (t : ℕ) → child-lts.Need-node-requires (calls-child t) (child-at t) child.Post
 child-node-requires t c κs = let s = c .before .before .before .before .before .before .before .before .before .before .before .before .before .before .before .before .before .before .before in
     let k = s .pre .1 .0 in
     let d = s .pre .1 .1 .0 in
     over-of (shown-of _ _ _ _ _ _ _ (c .before .before .before .before .q .given .1) (c .before .before .before .before .before .before .before .before .before .before .put .ensures (k .table) (d .tree) (k .sure) (d .at))) (s .pre .1 .1 .1 .areas)
 
--- src/lib.rt:355:13
 child-same-length-3 : (t : ℕ) → child-lts.Need-same-length-3 (calls-child t) (child-at t) child.Post
 child-same-length-3 t c = search needs
 
--- src/lib.rt:355:13
 child-same-length-4 : (t : ℕ) → child-lts.Need-same-length-4 (calls-child t) (child-at t) child.Post
 child-same-length-4 t c = search needs
 
--- src/lib.rt:355:13
 child-returns-2 : (t : ℕ) → child-lts.Need-returns-2 (calls-child t) (child-at t) child.Post
 child-returns-2 t c = λ u r su a. child-guarded (shown-of _ _ _ _ _ _ _ (c .before .before .before .before .before .before .before .q .given .1) (c .before .before .before .before .before .before .before .before .before .before .before .before .before .put .ensures u r su a)) (c .before .before .node .result) _ (c .before .before .node .last .0) (c .before .before .before .before .before .if1 .taken) (c .before .before .before .before .if2 .taken) (c .before .before .node .ensures)
 
--- src/lib.rt:334:1
 child-same-length-5 : (t : ℕ) → child-lts.Need-same-length-5 (calls-child t) (child-at t) child.Post
 child-same-length-5 t c = search needs
 
--- src/lib.rt:334:1
 child-same-length-6 : (t : ℕ) → child-lts.Need-same-length-6 (calls-child t) (child-at t) child.Post
 child-same-length-6 t c = search needs
 
--- src/lib.rt:334:1
 child-returns-3 : (t : ℕ) → child-lts.Need-returns-3 (calls-child t) (child-at t) child.Post
 child-returns-3 t c = λ u r su a. child-quiet (shown-of _ _ _ _ _ _ _ (c .before .before .before .q .given .1) (c .before .before .before .before .before .before .before .before .before .put .ensures u r su a)) _ (c .before .if1 .taken) (c .if2 .left)
 
--- src/lib.rt:334:1
 child-same-length-7 : (t : ℕ) → child-lts.Need-same-length-7 (calls-child t) (child-at t) child.Post
 child-same-length-7 t c = search needs
 
--- src/lib.rt:334:1
 child-same-length-8 : (t : ℕ) → child-lts.Need-same-length-8 (calls-child t) (child-at t) child.Post
 child-same-length-8 t c = search needs
 
--- src/lib.rt:334:1
 child-returns-4 : (t : ℕ) → child-lts.Need-returns-4 (calls-child t) (child-at t) child.Post
 child-returns-4 t c = λ u r su a. child-plain (shown-of _ _ _ _ _ _ _ (c .before .before .q .given .1) (c .before .before .before .before .before .before .before .before .put .ensures u r su a)) _ (c .if1 .left)
 
--- src/lib.rt:381:9
 one-guards-requires : (t : ℕ) → one-lts.Need-guards-requires (calls-one t) (one-at t) one.Post
 one-guards-requires t c κs = search needs
 
--- src/lib.rt:382:62
 one-sub-child : (t : ℕ) → one-lts.Need-sub-child (calls-one t) (one-at t) one.Post
 one-sub-child t c = let s = c .before .before .before .before .before .before .before in
     let f = s .pre .1 .1 .1 .1 .0 in
@@ -169,7 +152,6 @@ one-sub-child t c = let s = c .before .before .before .before .before .before .b
     let v = one-view f h (d .at) in
     omega (arith, v .most, v .least)
 
--- src/lib.rt:382:30
 one-child-requires : (t : ℕ) → one-lts.Need-child-requires (calls-one t) (one-at t) one.Post
 one-child-requires t c κs = let s = c .before .before .before .before .before .before .before .before .before in
     let f = s .pre .1 .1 .1 .1 .0 in
@@ -178,23 +160,18 @@ one-child-requires t c κs = let s = c .before .before .before .before .before .
     let v = one-view f h (d .at) in
     (omega (arith, s .pre .0, root (v .at) .rows, v .rows), (s .pre .1 .0, (record { tree = v .child; at = v .at }, s .pre .1 .1 .1 .0)))
 
--- src/lib.rt:382:22
 one-enum-known-q : (t : ℕ) → one-lts.Need-enum-known-q (calls-one t) (one-at t) one.Post
 one-enum-known-q t c = search needs
 
--- src/lib.rt:383:9
 one-enum-told : (t : ℕ) → one-lts.Need-enum-told (calls-one t) (one-at t) one.Post
 one-enum-told t c = search needs
 
--- src/lib.rt:383:9
 one-same-length : (t : ℕ) → one-lts.Need-same-length (calls-one t) (one-at t) one.Post
 one-same-length t c = search needs
 
--- src/lib.rt:383:9
 one-same-length-2 : (t : ℕ) → one-lts.Need-same-length-2 (calls-one t) (one-at t) one.Post
 one-same-length-2 t c = search needs
 
--- src/lib.rt:383:9
 one-returns : (t : ℕ) → one-lts.Need-returns (calls-one t) (one-at t) one.Post
 one-returns t c = λ u r su a. let s = c .before .before .before .before .before .before .before .before .before .before .before .before .before .before .before .before in
     let f = s .pre .1 .1 .1 .1 .0 in
@@ -202,7 +179,6 @@ one-returns t c = λ u r su a. let s = c .before .before .before .before .before
     let v = one-view f h a in
     one-full f h a _ u _ (c .before .before .before .before .before .before .before .before .before .guards .ensures) (no-room _ _ _ _ _ _ _ (c .enum-told .given .1) (c .before .before .before .before .before .before .child .ensures u (v .child) su (v .at)))
 
--- src/lib.rt:385:5
 one-node-requires : (t : ℕ) → one-lts.Need-node-requires (calls-one t) (one-at t) one.Post
 one-node-requires t c κs = let s = c .before .before .before .before .before .before .before .before .before .before .before .before .before .before .before .before .before .before in
     let f = s .pre .1 .1 .1 .1 .0 in
@@ -211,15 +187,12 @@ one-node-requires t c κs = let s = c .before .before .before .before .before .b
     let v = one-view f h (d .at) in
     over-of (shown-of _ _ _ _ _ _ _ (c .before .before .q .given .1) (c .before .before .before .before .before .before .before .before .child .ensures (s .pre .1 .0 .table) (v .child) (s .pre .1 .0 .sure) (v .at))) (s .pre .1 .1 .1 .0 .areas)
 
--- src/lib.rt:362:1
 one-same-length-3 : (t : ℕ) → one-lts.Need-same-length-3 (calls-one t) (one-at t) one.Post
 one-same-length-3 t c = search needs
 
--- src/lib.rt:362:1
 one-same-length-4 : (t : ℕ) → one-lts.Need-same-length-4 (calls-one t) (one-at t) one.Post
 one-same-length-4 t c = search needs
 
--- src/lib.rt:362:1
 one-returns-2 : (t : ℕ) → one-lts.Need-returns-2 (calls-one t) (one-at t) one.Post
 one-returns-2 t c = λ u r su a. let s = c .before .before .before .before .before .before .before .before .before .before .before .before .before .before .before .before .before .before .before .before .before in
     let f = s .pre .1 .1 .1 .1 .0 in
@@ -227,55 +200,42 @@ one-returns-2 t c = λ u r su a. let s = c .before .before .before .before .befo
     let v = one-view f h a in
     one-done f h a _ u _ (c .before .before .before .before .before .before .before .before .before .before .before .before .before .before .guards .ensures) (c .before .before .node .result) (c .before .before .node .last .0) (shown-of _ _ _ _ _ _ _ (c .before .before .before .before .before .q .given .1) (c .before .before .before .before .before .before .before .before .before .before .before .child .ensures u (v .child) su (v .at))) (c .before .before .node .ensures)
 
--- src/lib.rt:458:9
 put-row-at-requires : (t : ℕ) → put-lts.Need-row-at-requires (calls-put t) (put-at t) put.Post
 put-row-at-requires t c κs = search needs
 
--- src/lib.rt:454:9
 put-enum-known-kind : (t : ℕ) → put-lts.Need-enum-known-kind (calls-put t) (put-at t) put.Post
 put-enum-known-kind t c = search needs
 
--- src/lib.rt:460:9
 put-enum-told : (t : ℕ) → put-lts.Need-enum-told (calls-put t) (put-at t) put.Post
 put-enum-told t c = search needs
 
--- src/lib.rt:460:9
 put-returns : (t : ℕ) → put-lts.Need-returns (calls-put t) (put-at t) put.Post
 put-returns t c = absurd (root-there (c .before .before .before .before .before .before .before .before .before .pre .1 .1 .0 .at) (sym (c .before .before .row-at .ensures) ∙ c .enum-told .given .1))
 
--- src/lib.rt:462:11
 put-shape-of-requires : (t : ℕ) → put-lts.Need-shape-of-requires (calls-put t) (put-at t) put.Post
 put-shape-of-requires t c κs = search needs
 
--- src/lib.rt:463:63
 put-enum-told-2 : (t : ℕ) → put-lts.Need-enum-told-2 (calls-put t) (put-at t) put.Post
 put-enum-told-2 t c = search needs
 
--- src/lib.rt:463:23
 put-literal-requires : (t : ℕ) → put-lts.Need-literal-requires (calls-put t) (put-at t) put.Post
 put-literal-requires t c κs = let s = c .before .before .before .before .before .before .before .before .before .before .before .before .before .before .before in let k = s .pre .1 .0 in (k .hashed, (in-text _ (k .inside) (put-read t (c .before .before .before .before .before)) (sym (c .before .before .before .before .shape-of .ensures) ∙ c .before .before .enum-told2 .given .1), s .pre .1 .1 .1))
 
--- src/lib.rt:464:47
 put-enum-told-3 : (t : ℕ) → put-lts.Need-enum-told-3 (calls-put t) (put-at t) put.Post
 put-enum-told-3 t c = search needs
 
--- src/lib.rt:464:23
 put-plain-requires : (t : ℕ) → put-lts.Need-plain-requires (calls-put t) (put-at t) put.Post
 put-plain-requires t c κs = let s = c .before .before .before .before .before .before .before .before .before .before .before .before .before .before .before in (s .pre .1 .0 .inside, s .pre .1 .1)
 
--- src/lib.rt:465:71
 put-enum-told-4 : (t : ℕ) → put-lts.Need-enum-told-4 (calls-put t) (put-at t) put.Post
 put-enum-told-4 t c = search needs
 
--- src/lib.rt:465:23
 put-one-requires : (t : ℕ) → put-lts.Need-one-requires (calls-put t) (put-at t) put.Post
 put-one-requires t c κs = let s = c .before .before .before .before .before .before .before .before .before .before .before .before .before .before .before in (omega (arith, s .pre .0), (s .pre .1 .0, (s .pre .1 .1 .0, (s .pre .1 .1 .1, (is-row (put-read t (c .before .before .before .before .before)), sym (c .before .before .before .before .shape-of .ensures) ∙ c .before .before .enum-told4 .given .1)))))
 
--- src/lib.rt:466:65
 put-enum-told-5 : (t : ℕ) → put-lts.Need-enum-told-5 (calls-put t) (put-at t) put.Post
 put-enum-told-5 t c = search needs
 
--- src/lib.rt:466:23
 put-two-requires : (t : ℕ) → put-lts.Need-two-requires (calls-put t) (put-at t) put.Post
 put-two-requires t c κs = let s = c .before .before .before .before .before .before .before .before .before .before .before .before .before .before .before in
     let f = put-read t (c .before .before .before .before .before) in
@@ -283,75 +243,57 @@ put-two-requires t c κs = let s = c .before .before .before .before .before .be
     let v = as-two f (s .pre .1 .1 .0 .at) h in
     (omega (arith, s .pre .0), (s .pre .1 .0, (s .pre .1 .1 .0, (s .pre .1 .1 .1, (record { kind = f .kind; first = f .x ∙ ap (λ g. g .1) (v .head); second = f .y ∙ ap (λ g. g .2) (v .head) }, h)))))
 
--- src/lib.rt:467:49
 put-enum-told-6 : (t : ℕ) → put-lts.Need-enum-told-6 (calls-put t) (put-at t) put.Post
 put-enum-told-6 t c = search needs
 
--- src/lib.rt:467:25
 put-plain-requires-2 : (t : ℕ) → put-lts.Need-plain-requires-2 (calls-put t) (put-at t) put.Post
 put-plain-requires-2 t c κs = let s = c .before .before .before .before .before .before .before .before .before .before .before .before .before .before .before in (s .pre .1 .0 .inside, s .pre .1 .1)
 
--- src/lib.rt:438:1
 put-same-length : (t : ℕ) → put-lts.Need-same-length (calls-put t) (put-at t) put.Post
 put-same-length t c = search needs
 
--- src/lib.rt:438:1
 put-same-length-2 : (t : ℕ) → put-lts.Need-same-length-2 (calls-put t) (put-at t) put.Post
 put-same-length-2 t c = search needs
 
--- src/lib.rt:438:1
 put-returns-2 : (t : ℕ) → put-lts.Need-returns-2 (calls-put t) (put-at t) put.Post
 put-returns-2 t c = λ u r su a. lit-restored (put-read t (c .before .before .before .before .before .before .before .before .before .before)) a (c .before .before .before .before .before .before .before .before .before .before .before .before .before .before .before .before .before .before .before .before .args .text .now) u (c .before .before .before .before .literal .result) (c .before .before .before .before .before .before .before .before .before .before .before .before .before .before .before .before .before .before .before .before .args .p) (c .before .before .before .before .before .before .before .before .before .before .before .before .before .before .before .before .before .before .before .before .args .out .now) (c .before .before .before .before .literal .last .1 .1 .1 .1 .1 .1 .0) (c .before .before .before .before .before .before .before .before .before .before .before .before .before .before .before .before .before .before .before .before .args .lits .now) (c .before .before .before .before .literal .last .1 .1 .1 .1 .1 .1 .1 .0) (sym (c .before .before .before .before .before .before .before .before .before .shape-of .ensures) ∙ c .before .before .before .before .before .before .before .enum-told2 .given .1) (λ j h. c .before .before .before .before .literal .ensures u j su h)
 
--- src/lib.rt:438:1
 put-same-length-3 : (t : ℕ) → put-lts.Need-same-length-3 (calls-put t) (put-at t) put.Post
 put-same-length-3 t c = search needs
 
--- src/lib.rt:438:1
 put-same-length-4 : (t : ℕ) → put-lts.Need-same-length-4 (calls-put t) (put-at t) put.Post
 put-same-length-4 t c = search needs
 
--- src/lib.rt:438:1
 put-returns-3 : (t : ℕ) → put-lts.Need-returns-3 (calls-put t) (put-at t) put.Post
 put-returns-3 t c = λ u r su a. num-restored (put-read t (c .before .before .before .before .before .before .before .before .before .before)) a (c .before .before .before .before .before .before .before .before .before .before .before .before .before .before .before .before .before .before .before .before .args .text .now) u (c .before .before .before .before .plain .result) (c .before .before .before .before .before .before .before .before .before .before .before .before .before .before .before .before .before .before .before .before .args .p) (c .before .before .before .before .before .before .before .before .before .before .before .before .before .before .before .before .before .before .before .before .args .out .now) (c .before .before .before .before .plain .last .1 .1 .1 .0) (c .before .before .before .before .before .before .before .before .before .before .before .before .before .before .before .before .before .before .before .before .args .lits .now) (c .before .before .before .before .plain .last .1 .1 .1 .1 .0) (sym (c .before .before .before .before .before .before .before .before .before .shape-of .ensures) ∙ c .before .before .before .before .before .before .before .enum-told3 .given .1) (c .before .before .before .before .plain .ensures u r a)
 
--- src/lib.rt:438:1
 put-same-length-5 : (t : ℕ) → put-lts.Need-same-length-5 (calls-put t) (put-at t) put.Post
 put-same-length-5 t c = search needs
 
--- src/lib.rt:438:1
 put-same-length-6 : (t : ℕ) → put-lts.Need-same-length-6 (calls-put t) (put-at t) put.Post
 put-same-length-6 t c = search needs
 
--- src/lib.rt:438:1
 put-returns-4 : (t : ℕ) → put-lts.Need-returns-4 (calls-put t) (put-at t) put.Post
 put-returns-4 t c = c .before .before .before .before .one .ensures
 
--- src/lib.rt:438:1
 put-same-length-7 : (t : ℕ) → put-lts.Need-same-length-7 (calls-put t) (put-at t) put.Post
 put-same-length-7 t c = search needs
 
--- src/lib.rt:438:1
 put-same-length-8 : (t : ℕ) → put-lts.Need-same-length-8 (calls-put t) (put-at t) put.Post
 put-same-length-8 t c = search needs
 
--- src/lib.rt:438:1
 put-returns-5 : (t : ℕ) → put-lts.Need-returns-5 (calls-put t) (put-at t) put.Post
 put-returns-5 t c = c .before .before .before .before .two .ensures
 
--- src/lib.rt:438:1
 put-same-length-9 : (t : ℕ) → put-lts.Need-same-length-9 (calls-put t) (put-at t) put.Post
 put-same-length-9 t c = search needs
 
--- src/lib.rt:438:1
 put-same-length-10 : (t : ℕ) → put-lts.Need-same-length-10 (calls-put t) (put-at t) put.Post
 put-same-length-10 t c = search needs
 
--- src/lib.rt:438:1
 put-returns-6 : (t : ℕ) → put-lts.Need-returns-6 (calls-put t) (put-at t) put.Post
 put-returns-6 t c = λ u r su a. skip-restored (put-read t (c .before .before .before .before .before .before .before .before .before .before)) a (c .before .before .before .before .before .before .before .before .before .before .before .before .before .before .before .before .before .before .before .before .args .text .now) u (c .before .before .before .before .plain2 .result) (c .before .before .before .before .before .before .before .before .before .before .before .before .before .before .before .before .before .before .before .before .args .p) (c .before .before .before .before .before .before .before .before .before .before .before .before .before .before .before .before .before .before .before .before .args .out .now) (c .before .before .before .before .plain2 .last .1 .1 .1 .0) (c .before .before .before .before .before .before .before .before .before .before .before .before .before .before .before .before .before .before .before .before .args .lits .now) (c .before .before .before .before .plain2 .last .1 .1 .1 .1 .0) (sym (c .before .before .before .before .before .before .before .before .before .shape-of .ensures) ∙ c .before .before .before .before .before .before .before .enum-told6 .given .1) (c .before .before .before .before .plain2 .ensures u r a)
 
--- src/lib.rt:406:17
 two-sub-right : (t : ℕ) → two-lts.Need-sub-right (calls-two t) (two-at t) two.Post
 two-sub-right t c = let s = c .before .before .before .before .before .before in
     let f = s .pre .1 .1 .1 .1 .0 in
@@ -360,33 +302,26 @@ two-sub-right t c = let s = c .before .before .before .before .before .before in
     let v = two-view f h (d .at) in
     omega (arith, v .most, v .leastLeft)
 
--- src/lib.rt:412:9
 two-row-at-requires : (t : ℕ) → two-lts.Need-row-at-requires (calls-two t) (two-at t) two.Post
 two-row-at-requires t c κs = search needs
 
--- src/lib.rt:411:15
 two-enum-known-n : (t : ℕ) → two-lts.Need-enum-known-n (calls-two t) (two-at t) two.Post
 two-enum-known-n t c = search needs
 
--- src/lib.rt:414:9
 two-enum-told : (t : ℕ) → two-lts.Need-enum-told (calls-two t) (two-at t) two.Post
 two-enum-told t c = search needs
 
--- src/lib.rt:414:9
 two-returns : (t : ℕ) → two-lts.Need-returns (calls-two t) (two-at t) two.Post
 two-returns t c = let s = c .before .before .before .before .before .before .before .before .before in
     let v = two-view (s .pre .1 .1 .1 .1 .0) (s .pre .1 .1 .1 .1 .1) (s .pre .1 .1 .0 .at) in
     absurd (root-there (v .atRight) (sym (c .before .before .row-at .ensures) ∙ c .enum-told .given .1))
 
--- src/lib.rt:416:9
 two-guards-requires : (t : ℕ) → two-lts.Need-guards-requires (calls-two t) (two-at t) two.Post
 two-guards-requires t c κs = search needs
 
--- src/lib.rt:422:17
 two-wide-requires : (t : ℕ) → two-lts.Need-wide-requires (calls-two t) (two-at t) two.Post
 two-wide-requires t c κs = search needs
 
--- src/lib.rt:422:9
 two-sub-child : (t : ℕ) → two-lts.Need-sub-child (calls-two t) (two-at t) two.Post
 two-sub-child t c = let s = c .before .before .before .before .before .before .before .before .before .before .before .before in
     let f = s .pre .1 .1 .1 .1 .0 in
@@ -395,7 +330,6 @@ two-sub-child t c = let s = c .before .before .before .before .before .before .b
     let v = two-view f h (d .at) in
     omega (arith, v .most, v .leastLeft, found-size (two-right t (c .before .before)) (v .atRight), c .wide .ensures)
 
--- src/lib.rt:417:30
 two-child-requires : (t : ℕ) → two-lts.Need-child-requires (calls-two t) (two-at t) two.Post
 two-child-requires t c κs = let s = c .before .before .before .before .before .before .before .before .before .before .before .before .before .before in
     let f = s .pre .1 .1 .1 .1 .0 in
@@ -405,23 +339,18 @@ two-child-requires t c κs = let s = c .before .before .before .before .before .
     let x = two-left f h (d .at) (two-right t (c .before .before .before .before)) (c .before .before .wide .ensures) in
     (omega (arith, s .pre .0, root x .rows, v .rows, v .leastRight), (s .pre .1 .0, (record { tree = v .left; at = x }, s .pre .1 .1 .1 .0)))
 
--- src/lib.rt:417:22
 two-enum-known-q : (t : ℕ) → two-lts.Need-enum-known-q (calls-two t) (two-at t) two.Post
 two-enum-known-q t c = search needs
 
--- src/lib.rt:428:9
 two-enum-told-2 : (t : ℕ) → two-lts.Need-enum-told-2 (calls-two t) (two-at t) two.Post
 two-enum-told-2 t c = search needs
 
--- src/lib.rt:428:9
 two-same-length : (t : ℕ) → two-lts.Need-same-length (calls-two t) (two-at t) two.Post
 two-same-length t c = search needs
 
--- src/lib.rt:428:9
 two-same-length-2 : (t : ℕ) → two-lts.Need-same-length-2 (calls-two t) (two-at t) two.Post
 two-same-length-2 t c = search needs
 
--- src/lib.rt:428:9
 two-returns-2 : (t : ℕ) → two-lts.Need-returns-2 (calls-two t) (two-at t) two.Post
 two-returns-2 t c = λ u r su a. let s = c .before .before .before .before .before .before .before .before .before .before .before .before .before .before .before .before .before .before .before .before .before in
     let f = s .pre .1 .1 .1 .1 .0 in
@@ -430,7 +359,6 @@ two-returns-2 t c = λ u r su a. let s = c .before .before .before .before .befo
     let x = two-left f h a (two-right t (c .before .before .before .before .before .before .before .before .before .before .before)) (c .before .before .before .before .before .before .before .before .before .wide .ensures) in
     left-full f h a _ u _ (c .before .before .before .before .before .before .before .before .before .before .guards .ensures) (no-room _ _ _ _ _ _ _ (c .enum-told2 .given .1) (c .before .before .before .before .before .before .child .ensures u (v .left) su x))
 
--- src/lib.rt:430:30
 two-child-requires-2 : (t : ℕ) → two-lts.Need-child-requires-2 (calls-two t) (two-at t) two.Post
 two-child-requires-2 t c κs = let s = c .before .before .before .before .before .before .before .before .before .before .before .before .before .before .before .before .before .before .before .before .before .before .before .before in
     let f = s .pre .1 .1 .1 .1 .0 in
@@ -442,23 +370,18 @@ two-child-requires-2 t c κs = let s = c .before .before .before .before .before
     let w = shown-of _ _ _ _ _ _ _ (c .before .before .before .q .given .1) (c .before .before .before .before .before .before .before .before .before .child .ensures (k .table) (v .left) (k .sure) x) in
     (omega (arith, s .pre .0, root (v .atRight) .rows, v .rows, v .leastLeft), (k, (record { tree = v .right; at = v .atRight }, written-room (w .written) (s .pre .1 .1 .1 .0 .areas))))
 
--- src/lib.rt:430:22
 two-enum-known-s : (t : ℕ) → two-lts.Need-enum-known-s (calls-two t) (two-at t) two.Post
 two-enum-known-s t c = search needs
 
--- src/lib.rt:431:9
 two-enum-told-3 : (t : ℕ) → two-lts.Need-enum-told-3 (calls-two t) (two-at t) two.Post
 two-enum-told-3 t c = search needs
 
--- src/lib.rt:431:9
 two-same-length-3 : (t : ℕ) → two-lts.Need-same-length-3 (calls-two t) (two-at t) two.Post
 two-same-length-3 t c = search needs
 
--- src/lib.rt:431:9
 two-same-length-4 : (t : ℕ) → two-lts.Need-same-length-4 (calls-two t) (two-at t) two.Post
 two-same-length-4 t c = search needs
 
--- src/lib.rt:431:9
 two-returns-3 : (t : ℕ) → two-lts.Need-returns-3 (calls-two t) (two-at t) two.Post
 two-returns-3 t c = λ u r su a. let s = c .before .before .before .before .before .before .before .before .before .before .before .before .before .before .before .before .before .before .before .before .before .before .before .before .before .before .before .before .before .before .before in
     let f = s .pre .1 .1 .1 .1 .0 in
@@ -467,11 +390,9 @@ two-returns-3 t c = λ u r su a. let s = c .before .before .before .before .befo
     let x = two-left f h a (two-right t (c .before .before .before .before .before .before .before .before .before .before .before .before .before .before .before .before .before .before .before .before .before)) (c .before .before .before .before .before .before .before .before .before .before .before .before .before .before .before .before .before .before .before .wide .ensures) in
     right-full f h a _ u _ (c .before .before .before .before .before .before .before .before .before .before .before .before .before .before .before .before .before .before .before .before .guards .ensures) (shown-of _ _ _ _ _ _ _ (c .before .before .before .before .before .before .before .before .before .before .q .given .1) (c .before .before .before .before .before .before .before .before .before .before .before .before .before .before .before .before .child .ensures u (v .left) su x)) (no-room _ _ _ _ _ _ _ (c .enum-told3 .given .1) (c .before .before .before .before .before .before .child2 .ensures u (v .right) su (v .atRight)))
 
--- src/lib.rt:433:9
 two-either-requires : (t : ℕ) → two-lts.Need-either-requires (calls-two t) (two-at t) two.Post
 two-either-requires t c κs = search needs
 
--- src/lib.rt:434:5
 two-node-requires : (t : ℕ) → two-lts.Need-node-requires (calls-two t) (two-at t) two.Post
 two-node-requires t c κs = let s = c .before .before .before .before .before .before .before .before .before .before .before .before .before .before .before .before .before .before .before .before .before .before .before .before .before .before .before .before .before .before .before .before .before .before in
     let f = s .pre .1 .1 .1 .1 .0 in
@@ -485,15 +406,12 @@ two-node-requires t c κs = let s = c .before .before .before .before .before .b
     let y = over-of (shown-of _ _ _ _ _ _ _ (c .before .before .before .s .given .1) (c .before .before .before .before .before .before .before .before .before .child2 .ensures (k .table) (v .right) (k .sure) (v .atRight))) (written-room (w .written) (s .pre .1 .1 .1 .0 .areas) .areas) in
     record { low = omega (arith, z .low, y .low); high = y .high; words = y .words }
 
--- src/lib.rt:389:1
 two-same-length-5 : (t : ℕ) → two-lts.Need-same-length-5 (calls-two t) (two-at t) two.Post
 two-same-length-5 t c = search needs
 
--- src/lib.rt:389:1
 two-same-length-6 : (t : ℕ) → two-lts.Need-same-length-6 (calls-two t) (two-at t) two.Post
 two-same-length-6 t c = search needs
 
--- src/lib.rt:389:1
 two-returns-4 : (t : ℕ) → two-lts.Need-returns-4 (calls-two t) (two-at t) two.Post
 two-returns-4 t c = λ u r su a. let s = c .before .before .before .before .before .before .before .before .before .before .before .before .before .before .before .before .before .before .before .before .before .before .before .before .before .before .before .before .before .before .before .before .before .before .before .before .before in
     let f = s .pre .1 .1 .1 .1 .0 in

@@ -1,10 +1,10 @@
-use mathlib.Core.Path.{_≡_, refl, sym, ap, _∙_}
-use Prim.Native.Nat.{_+_, _-_, _*_, _/_, _≤_}
+-- The search for a change of the stack. The measure: three for each rule that was not seen. The invariant of the walk over rows: what is known of the tree while some of its subtrees are left. Assumes nothing.
+use mathlib.Core.Path.{sym, _∙_}
+use Prim.Native.Nat.{_+_, _*_}
 use native.Mathlib.Omega.{arith}
-use lib.ListN.{length, getD, set, length-set}
+use lib.ListN.{length, length-set}
 use Rattle.grammar.specs.Tree.{Ident}
 use Rattle.grammar.specs.Table.{resolveRule}
-use Rattle.rows.specs.Rows.{At}
 use Rattle.rows.proofs.Laws.{Found, row-found, root, root-there, found-size}
 use Rattle.rows.proofs.Cells.{in-text, lit-shape}
 use Rattle.restorer.specs.Lends.{zeros}
@@ -70,79 +70,60 @@ calls-visit t = (row-at-reads.Asked, row-at-reads.Learnt, wide-reads.Asked, wide
 visit-read : (t : ℕ) (c : visit-lts.After-known-told (calls-visit t) (visit-at t) visit.Post) → let k = c .before .kind .given .0 in Found (c .before .before .before .before .before .before .before .before .args .rows .now) (c .before .before .before .before .before .before .before .before .args .i) (k .0) (k .1 .0) (k .1 .1 .0) (k .1 .1 .1 .0)
 visit-read t c = row-found (sym (c .before .before .before .row-at .ensures) ∙ c .before .kind .given .1)
 
--- src/lib.rt:56:14
 look-mul-at : (t : ℕ) → look-lts.Need-mul-at (calls-look t) (look-at t) look.Post
 look-mul-at t c = let s = c .before .before .before .before in omega (arith, s .pre .1 .1, s .pre .1 .0 .marked .hashed .long, s .good .1 .1 .1 .0 .0)
 
--- src/lib.rt:57:23
 look-add-state : (t : ℕ) → look-lts.Need-add-state (calls-look t) (look-at t) look.Post
 look-add-state t c = let s = c .before .before .before .before in omega (arith, s .pre .1 .1, s .pre .1 .0 .marked .hashed .long, s .good .1 .1 .1 .0 .0)
 
--- src/lib.rt:57:17
 look-mul-state : (t : ℕ) → look-lts.Need-mul-state (calls-look t) (look-at t) look.Post
 look-mul-state t c = let s = c .before .before .before .before in omega (arith, s .pre .1 .1, s .pre .1 .0 .marked .hashed .long, s .good .1 .1 .1 .0 .1)
 
--- src/lib.rt:57:17
 look-slice-read-state : (t : ℕ) → look-lts.Need-slice-read-state (calls-look t) (look-at t) look.Post
 look-slice-read-state t c = let s = c .before .before .before .before .before in omega (arith, s .pre .1 .1, s .pre .1 .0 .marked .hashed .long, s .good .1 .1 .1 .0 .0)
 
--- src/lib.rt:59:9
 look-returns : (t : ℕ) → look-lts.Need-returns (calls-look t) (look-at t) look.Post
 look-returns t c = (ran-none _, λ u l h. look-yes h (c .if1 .taken))
 
--- src/lib.rt:62:9
 look-returns-2 : (t : ℕ) → look-lts.Need-returns-2 (calls-look t) (look-at t) look.Post
 look-returns-2 t c = (ran-none _, λ u l h. look-no (below-resolved l _ _ (c .before .before .before .before .before .before .before .pre .1 .1)) h (c .before .if1 .left) (c .if2 .taken))
 
--- src/lib.rt:64:26
 look-add-wide : (t : ℕ) → look-lts.Need-add-wide (calls-look t) (look-at t) look.Post
 look-add-wide t c = let s = c .before .before .before .before .before .before .before in omega (arith, s .pre .1 .1, s .pre .1 .0 .marked .hashed .long, s .good .1 .1 .1 .0 .0)
 
--- src/lib.rt:64:20
 look-mul-wide : (t : ℕ) → look-lts.Need-mul-wide (calls-look t) (look-at t) look.Post
 look-mul-wide t c = let s = c .before .before .before .before .before .before .before in omega (arith, s .pre .1 .1, s .pre .1 .0 .marked .hashed .long, s .good .1 .1 .1 .0 .1)
 
--- src/lib.rt:64:20
 look-slice-read-wide : (t : ℕ) → look-lts.Need-slice-read-wide (calls-look t) (look-at t) look.Post
 look-slice-read-wide t c = let s = c .before .before .before .before .before .before .before .before in omega (arith, s .pre .1 .1, s .pre .1 .0 .marked .hashed .long, s .good .1 .1 .1 .0 .0)
 
--- src/lib.rt:64:9
 look-wide-requires : (t : ℕ) → look-lts.Need-wide-requires (calls-look t) (look-at t) look.Post
 look-wide-requires t c κs = search needs
 
--- src/lib.rt:65:11
 look-add-marks : (t : ℕ) → look-lts.Need-add-marks (calls-look t) (look-at t) look.Post
 look-add-marks t c = let s = c .before .before .before .before .before .before .before .before .before in omega (arith, s .pre .1 .1, s .pre .1 .0 .marked .hashed .long, s .good .1 .1 .1 .0 .0)
 
--- src/lib.rt:65:5
 look-mul-marks : (t : ℕ) → look-lts.Need-mul-marks (calls-look t) (look-at t) look.Post
 look-mul-marks t c = let s = c .before .before .before .before .before .before .before .before .before in omega (arith, s .pre .1 .1, s .pre .1 .0 .marked .hashed .long, s .good .1 .1 .1 .0 .1)
 
--- src/lib.rt:65:5
 look-slice-write-marks : (t : ℕ) → look-lts.Need-slice-write-marks (calls-look t) (look-at t) look.Post
 look-slice-write-marks t c = let s = c .before .before .before .before .before .before .before .before .before in omega (arith, s .pre .1 .1, s .pre .1 .0 .marked .hashed .long, s .good .1 .1 .1 .0 .0)
 
--- src/lib.rt:66:56
 look-add-wide-2 : (t : ℕ) → look-lts.Need-add-wide-2 (calls-look t) (look-at t) look.Post
 look-add-wide-2 t c = let s = c .before .before .before .before .before .before .before .before .before .before in omega (arith, s .pre .1 .1, s .good .0 .0)
 
--- src/lib.rt:66:50
 look-mul-wide-2 : (t : ℕ) → look-lts.Need-mul-wide-2 (calls-look t) (look-at t) look.Post
 look-mul-wide-2 t c = let s = c .before .before .before .before .before .before .before .before .before .before in omega (arith, s .pre .1 .1, s .good .0 .1)
 
--- src/lib.rt:66:50
 look-shared-slice-read-wide : (t : ℕ) → look-lts.Need-shared-slice-read-wide (calls-look t) (look-at t) look.Post
 look-shared-slice-read-wide t c = let s = c .before .before .before .before .before .before .before .before .before .before .before in omega (arith, s .pre .1 .1)
 
--- src/lib.rt:66:45
 look-wide-requires-2 : (t : ℕ) → look-lts.Need-wide-requires-2 (calls-look t) (look-at t) look.Post
 look-wide-requires-2 t c κs = search needs
 
--- src/lib.rt:66:39
 look-sub-walk : (t : ℕ) → look-lts.Need-sub-walk (calls-look t) (look-at t) look.Post
 look-sub-walk t c = let s = c .before .before .before .before .before .before .before .before .before .before .before .before in let g = s .pre .1 .0 in rule-most (g .marked .lent) (s .args .marks .now) (s .args .i) (rule-there (g .marked .lent) (s .args .i) (s .pre .1 .1)) (s .pre .1 .1) (g .ended) _ _ (c .before .before .before .wide .ensures) (c .wide2 .ensures)
 
--- src/lib.rt:66:8
 look-walk-requires : (t : ℕ) → look-lts.Need-walk-requires (calls-look t) (look-at t) look.Post
 look-walk-requires t c κs = let s = c .before .before .before .before .before .before .before .before .before .before .before .before in
     let g = s .pre .1 .0 in
@@ -154,23 +135,18 @@ look-walk-requires t c κs = let s = c .before .before .before .before .before .
       (given-steady g (ran-set m i 1 b (omega arith) .steady) (length-set m (i * 4 + 1) 1), rule-tree (g .marked .lent) m i (rule-there (g .marked .lent) i h) h (g .ended) _ _ (c .before .before .before .wide .ensures) (c .wide2 .ensures)),
     )
 
--- src/lib.rt:67:15
 look-add-marks-2 : (t : ℕ) → look-lts.Need-add-marks-2 (calls-look t) (look-at t) look.Post
 look-add-marks-2 t c = let s = c .before .before .before .before .before .before .before .before .before .before .before .before .before .before .before .before in omega (arith, s .pre .1 .1, s .pre .1 .0 .marked .hashed .long, s .good .1 .1 .1 .0 .0)
 
--- src/lib.rt:67:9
 look-mul-marks-2 : (t : ℕ) → look-lts.Need-mul-marks-2 (calls-look t) (look-at t) look.Post
 look-mul-marks-2 t c = let s = c .before .before .before .before .before .before .before .before .before .before .before .before .before .before .before .before in omega (arith, s .pre .1 .1, s .pre .1 .0 .marked .hashed .long, s .good .1 .1 .1 .0 .1)
 
--- src/lib.rt:67:9
 look-slice-write-marks-2 : (t : ℕ) → look-lts.Need-slice-write-marks-2 (calls-look t) (look-at t) look.Post
 look-slice-write-marks-2 t c = let s = c .before .before .before .before .before .before .before .before .before .before .before .before .before .before .before .before in omega (arith, s .pre .1 .1, s .pre .1 .0 .marked .hashed .long, c .before .before .before .walk .kept .1 .1 .1 .0, length-set (s .args .marks .now) (s .args .i * 4 + 1) 1)
 
--- src/lib.rt:68:9
 look-same-length : (t : ℕ) → look-lts.Need-same-length (calls-look t) (look-at t) look.Post
 look-same-length t c = let s = c .before .before .before .before .before .before .before .before .before .before .before .before .before .before .before .before in omega (arith, length-set (c .before .before .before .walk .last .1 .1 .1 .0) (s .args .i * 4 + 1) 3, c .before .before .before .walk .kept .1 .1 .1 .0, length-set (s .args .marks .now) (s .args .i * 4 + 1) 1)
 
--- src/lib.rt:68:9
 look-returns-3 : (t : ℕ) → look-lts.Need-returns-3 (calls-look t) (look-at t) look.Post
 look-returns-3 t c = let s = c .before .before .before .before .before .before .before .before .before .before .before .before .before .before .before .before in
     let g = s .pre .1 .0 in
@@ -189,11 +165,9 @@ look-returns-3 t c = let s = c .before .before .before .before .before .before .
           searched-yes (resolveRule _ (r .rule)) e z o k (c .before .before .before .walk .ensures .1 u (r .rule .body) l (rule-at l m i r h (g .ended) _ _ (c .before .before .before .before .before .before .before .wide .ensures) (c .before .before .before .before .wide2 .ensures)) (seen-right (resolveRule _ (r .rule)) e z o k)) (c .if3 .taken) (sets-state m₂ i 3 b₂),
     )
 
--- src/lib.rt:50:1
 look-same-length-2 : (t : ℕ) → look-lts.Need-same-length-2 (calls-look t) (look-at t) look.Post
 look-same-length-2 t c = let s = c .before .before .before .before .before .before .before .before .before .before .before .before .before .before .before .before in omega (arith, c .before .before .before .walk .kept .1 .1 .1 .0, length-set (s .args .marks .now) (s .args .i * 4 + 1) 1)
 
--- src/lib.rt:50:1
 look-returns-4 : (t : ℕ) → look-lts.Need-returns-4 (calls-look t) (look-at t) look.Post
 look-returns-4 t c = let s = c .before .before .before .before .before .before .before .before .before .before .before .before .before .before .before .before in
     let g = s .pre .1 .0 in
@@ -211,74 +185,58 @@ look-returns-4 t c = let s = c .before .before .before .before .before .before .
           searched-no (resolveRule _ (r .rule)) e z o k (c .before .before .before .walk .ensures .1 u (r .rule .body) l (rule-at l m i r h (g .ended) _ _ (c .before .before .before .before .before .before .before .wide .ensures) (c .before .before .before .before .wide2 .ensures)) (seen-right (resolveRule _ (r .rule)) e z o k)) (c .if3 .left),
     )
 
--- src/lib.rt:81:44
 visit-row-at-requires : (t : ℕ) → visit-lts.Need-row-at-requires (calls-visit t) (visit-at t) visit.Post
 visit-row-at-requires t c κs = search needs
 
--- src/lib.rt:81:23
 visit-enum-known-kind : (t : ℕ) → visit-lts.Need-enum-known-kind (calls-visit t) (visit-at t) visit.Post
 visit-enum-known-kind t c = search needs
 
--- src/lib.rt:82:9
 visit-enum-told : (t : ℕ) → visit-lts.Need-enum-told (calls-visit t) (visit-at t) visit.Post
 visit-enum-told t c = search needs
 
--- src/lib.rt:82:9
 visit-returns : (t : ℕ) → visit-lts.Need-returns (calls-visit t) (visit-at t) visit.Post
 visit-returns t c = absurd (root-there (c .before .before .before .before .before .before .before .pre .1 .1 .at) (sym (c .before .before .row-at .ensures) ∙ c .enum-told .given .1))
 
--- src/lib.rt:85:35
 visit-wide-requires : (t : ℕ) → visit-lts.Need-wide-requires (calls-visit t) (visit-at t) visit.Post
 visit-wide-requires t c κs = search needs
 
--- src/lib.rt:85:9
 visit-step-from-requires : (t : ℕ) → visit-lts.Need-step-from-requires (calls-visit t) (visit-at t) visit.Post
 visit-step-from-requires t c κs = let s = c .before .before .before .before .before .before .before .before .before .before in let a = s .pre .1 .1 .at in omega (arith, c .wide .ensures, found-size (visit-read t (c .before .before)) a, root a .most, root a .inside, s .good .1 .0 .0)
 
--- src/lib.rt:85:9
 visit-returns-2 : (t : ℕ) → visit-lts.Need-returns-2 (calls-visit t) (visit-at t) visit.Post
 visit-returns-2 t c = (
   ran-none _,
   (row-goes (visit-read t (c .before .before .before)) (c .before .before .if1 .taken) (c .step-from .ensures) (c .before .wide .ensures), λ u r l b h. row-visited (visit-read t (c .before .before .before)) (c .before .before .if1 .taken) (c .step-from .ensures) (c .before .wide .ensures) _ _ _ r b h),
 )
 
--- src/lib.rt:87:9
 visit-wide-requires-2 : (t : ℕ) → visit-lts.Need-wide-requires-2 (calls-visit t) (visit-at t) visit.Post
 visit-wide-requires-2 t c κs = search needs
 
--- src/lib.rt:88:9
 visit-wide-requires-3 : (t : ℕ) → visit-lts.Need-wide-requires-3 (calls-visit t) (visit-at t) visit.Post
 visit-wide-requires-3 t c κs = search needs
 
--- src/lib.rt:89:8
 visit-changes-stack-requires : (t : ℕ) → visit-lts.Need-changes-stack-requires (calls-visit t) (visit-at t) visit.Post
 visit-changes-stack-requires t c κs = let s = c .before .before .before .before .before .before .before .before .before .before .before in omega (arith, c .wide3 .ensures, c .before .wide2 .ensures, in-text _ (s .pre .1 .0 .marked .inside) (visit-read t (c .before .before .before)) (rw (c .before .before .if1 .left) (lit-shape Ident)))
 
--- src/lib.rt:90:9
 visit-returns-3 : (t : ℕ) → visit-lts.Need-returns-3 (calls-visit t) (visit-at t) visit.Post
 visit-returns-3 t c = (
   ran-none _,
   (λ r b. tt, λ u r l b h. stack-name (visit-read t (c .before .before .before .before .before)) (c .before .before .before .before .if1 .left) _ _ _ _ r (c .before .before .before .wide2 .ensures) (c .before .before .wide3 .ensures) (c .before .changes-stack .ensures) (c .if2 .taken) b h),
 )
 
--- src/lib.rt:92:24
 visit-find-rule-requires : (t : ℕ) → visit-lts.Need-find-rule-requires (calls-visit t) (visit-at t) visit.Post
 visit-find-rule-requires t c κs = let s = c .before .before .before .before .before .before .before .before .before .before .before .before .before .before in
     (s .pre .1 .0 .marked .hashed, omega (arith, c .before .before .before .wide3 .ensures, c .before .before .before .before .wide2 .ensures, in-text _ (s .pre .1 .0 .marked .inside) (visit-read t (c .before .before .before .before .before .before)) (rw (c .before .before .before .before .before .if1 .left) (lit-shape Ident))))
 
--- src/lib.rt:92:19
 visit-enum-known-k : (t : ℕ) → visit-lts.Need-enum-known-k (calls-visit t) (visit-at t) visit.Post
 visit-enum-known-k t c = search needs
 
--- src/lib.rt:93:9
 visit-enum-told-2 : (t : ℕ) → visit-lts.Need-enum-told-2 (calls-visit t) (visit-at t) visit.Post
 visit-enum-told-2 t c = search needs
 
--- src/lib.rt:93:9
 visit-same-length : (t : ℕ) → visit-lts.Need-same-length (calls-visit t) (visit-at t) visit.Post
 visit-same-length t c = search needs
 
--- src/lib.rt:93:9
 visit-returns-4 : (t : ℕ) → visit-lts.Need-returns-4 (calls-visit t) (visit-at t) visit.Post
 visit-returns-4 t c = (
   ran-none _,
@@ -288,27 +246,22 @@ visit-returns-4 t c = (
   ),
 )
 
--- src/lib.rt:95:8
 visit-look-requires : (t : ℕ) → visit-lts.Need-look-requires (calls-visit t) (visit-at t) visit.Post
 visit-look-requires t c κs = let s = c .before .before .before .before .before .before .before .before .before .before .before .before .before .before .before .before .before .before .before in
     (omega (arith, s .pre .0), (s .pre .1 .0, finds-below _ _ _ _ _ (c .before .before .before .before .find-rule .ensures) (c .before .before .k .given .1)))
 
--- src/lib.rt:74:1
 visit-same-length-2 : (t : ℕ) → visit-lts.Need-same-length-2 (calls-visit t) (visit-at t) visit.Post
 visit-same-length-2 t c = search needs
 
--- src/lib.rt:74:1
 visit-returns-5 : (t : ℕ) → visit-lts.Need-returns-5 (calls-visit t) (visit-at t) visit.Post
 visit-returns-5 t c = (
   c .before .before .before .look .ensures .0,
   (λ r b. tt, λ u r l b h. ident-changes (visit-read t (c .before .before .before .before .before .before .before .before .before .before .before .before .before .before .before)) (c .before .before .before .before .before .before .before .before .before .before .before .before .before .before .if1 .left) _ u l _ _ _ r (c .before .before .before .before .before .before .before .before .before .before .before .before .before .wide2 .ensures) (c .before .before .before .before .before .before .before .before .before .before .before .before .wide3 .ensures) (c .before .before .before .before .before .before .before .before .before .before .before .changes-stack .ensures) (c .before .before .before .before .before .before .before .before .before .before .if2 .left) (c .before .before .before .before .before .before .before .before .find-rule .ensures) b (c .before .before .before .before .before .before .k .given .1) (c .before .before .before .look .ensures .1 u l h) (c .if3 .taken)),
 )
 
--- src/lib.rt:74:1
 visit-same-length-3 : (t : ℕ) → visit-lts.Need-same-length-3 (calls-visit t) (visit-at t) visit.Post
 visit-same-length-3 t c = search needs
 
--- src/lib.rt:74:1
 visit-returns-6 : (t : ℕ) → visit-lts.Need-returns-6 (calls-visit t) (visit-at t) visit.Post
 visit-returns-6 t c = (
   c .before .before .before .look .ensures .0,
@@ -321,7 +274,6 @@ walk-Inv-loop rules rows text marks₀ from end i₀ marks i = Walking rules row
 abbrev walk-μ-loop : walk-lts.MeasureT-loop
 walk-μ-loop rules rows text marks₀ from end i₀ marks i = i
 
--- src/lib.rt:117:5
 walk-loop-holds :
     (t : ℕ) →
     walk-lts.Need-loop-holds
@@ -332,7 +284,6 @@ walk-loop-holds :
     walk-μ-loop
 walk-loop-holds t c = walk-start (c .before .before .before .before .pre .1 .1)
 
--- src/lib.rt:118:61
 walk-sub-visit :
     (t : ℕ) →
     walk-lts.Need-sub-visit
@@ -343,7 +294,6 @@ walk-sub-visit :
     walk-μ-loop
 walk-sub-visit t c = omega (arith, c .before .loop-test .taken)
 
--- src/lib.rt:118:29
 walk-visit-requires :
     (t : ℕ) →
     walk-lts.Need-visit-requires
@@ -357,7 +307,6 @@ walk-visit-requires t c κs = let s = c .before .before .before .before .before 
     let q = walk-top inv (c .before .loop-test .taken) in
     (omega (arith, s .pre .0, inv .ran .fewer), (given-steady (s .pre .1 .0) (inv .ran .steady) (inv .long), record { tree = q .tree; at = q .at }))
 
--- src/lib.rt:118:24
 walk-enum-known-j :
     (t : ℕ) →
     walk-lts.Need-enum-known-j
@@ -368,7 +317,6 @@ walk-enum-known-j :
     walk-μ-loop
 walk-enum-known-j t c = search needs
 
--- src/lib.rt:119:13
 walk-enum-told :
     (t : ℕ) →
     walk-lts.Need-enum-told
@@ -379,7 +327,6 @@ walk-enum-told :
     walk-μ-loop
 walk-enum-told t c = search needs
 
--- src/lib.rt:119:13
 walk-same-length :
     (t : ℕ) →
     walk-lts.Need-same-length
@@ -390,7 +337,6 @@ walk-same-length :
     walk-μ-loop
 walk-same-length t c = c .before .before .before .before .visit .kept .1 .1 .1 .0 ∙ c .before .before .before .before .before .before .before .loop .inv .long
 
--- src/lib.rt:119:13
 walk-returns :
     (t : ℕ) →
     walk-lts.Need-returns
@@ -401,7 +347,6 @@ walk-returns :
     walk-μ-loop
 walk-returns t c = (ran-more (c .before .before .before .before .before .before .before .loop .inv .ran) (c .before .before .before .before .visit .ensures .0), walk-met (c .before .before .before .before .before .before .before .loop .inv) (c .before .before .before .before .before .before .loop-test .taken) (c .before .before .before .before .visit .ensures .0) (c .before .before .before .before .visit .kept .1 .1 .1 .0) (c .before .before .before .before .visit .ensures .1 .0) (c .before .before .before .before .visit .ensures .1 .1) (c .enum-told .given .1))
 
--- src/lib.rt:117:5
 walk-loop-less :
     (t : ℕ) →
     walk-lts.Need-loop-less
@@ -412,7 +357,6 @@ walk-loop-less :
     walk-μ-loop
 walk-loop-less t c = walk-less (c .before .before .before .before .before .before .before .before .loop .inv) (c .before .before .before .before .before .before .before .loop-test .taken) (c .before .before .before .before .before .visit .ensures .0) (c .before .before .before .before .before .visit .kept .1 .1 .1 .0) (c .before .before .before .before .before .visit .ensures .1 .0) (c .before .before .before .before .before .visit .ensures .1 .1) (c .before .j .given .1)
 
--- src/lib.rt:117:5
 walk-loop-again :
     (t : ℕ) →
     walk-lts.Need-loop-again
@@ -423,7 +367,6 @@ walk-loop-again :
     walk-μ-loop
 walk-loop-again t c = walk-next (c .before .before .before .before .before .before .before .before .loop .inv) (c .before .before .before .before .before .before .before .loop-test .taken) (c .before .before .before .before .before .visit .ensures .0) (c .before .before .before .before .before .visit .kept .1 .1 .1 .0) (c .before .before .before .before .before .visit .ensures .1 .0) (c .before .before .before .before .before .visit .ensures .1 .1) (c .before .j .given .1)
 
--- src/lib.rt:103:1
 walk-same-length-2 :
     (t : ℕ) →
     walk-lts.Need-same-length-2
@@ -434,7 +377,6 @@ walk-same-length-2 :
     walk-μ-loop
 walk-same-length-2 t c = c .before .loop .inv .long
 
--- src/lib.rt:103:1
 walk-returns-2 :
     (t : ℕ) →
     walk-lts.Need-returns-2

@@ -1,5 +1,6 @@
-use mathlib.Core.Path.{_≡_, refl}
-use Prim.Native.Nat.{_*_, _/_, _≤_}
+-- A search that ends in no settles all it saw, and one that ends in yes the rules then open. Assumes nothing.
+use mathlib.Core.Path.{refl}
+use Prim.Native.Nat.{_/_}
 use native.Mathlib.Omega.{arith}
 use lib.ListN.{length}
 use Rattle.restorer.proofs.Marks.{ran-none, below-resolved}
@@ -7,48 +8,34 @@ use Rattle.restorer.proofs.Ends.{turned-steady, steady-more, ends-settl
 use borrow.Author.Needs.{needs}
 use Rattle.restorer.proofs.settle_rule.Statement.{statement}
 use Rattle.restorer.proofs.settle_rule.Tie as tie
-use Rattle.restorer.proofs.settle_rule.Reads as reads
-use Rattle.restorer.proofs.settle_rule.Lts as lts
-use Rattle.restorer.proofs.look.Reads as look-reads
-use Rattle.restorer.proofs.turn.Reads as turn-reads
 
--- src/lib.rt:166:14
 mul-if1 : tie.Need-mul-if1
 mul-if1 c = search needs
 
--- src/lib.rt:166:14
 add-if1 : tie.Need-add-if1
 add-if1 c = search needs
 
--- src/lib.rt:166:8
 mul-if1-2 : tie.Need-mul-if1-2
 mul-if1-2 c = search needs
 
--- src/lib.rt:166:8
 slice-read-if1 : tie.Need-slice-read-if1
 slice-read-if1 c = search needs
 
--- src/lib.rt:167:9
 returns : tie.Need-returns
 returns c = (ran-none _ .steady, λ u l h. ends-settled h (below-resolved l _ _ (c .before .before .before .before .before .before .pre .1)) (c .if1 .taken))
 
--- src/lib.rt:170:8
 look-requires : tie.Need-look-requires
 look-requires c κs = search needs
 
--- src/lib.rt:171:9
 turn-requires : tie.Need-turn-requires
 turn-requires c κs = search needs
 
--- src/lib.rt:173:9
 turn-requires-2 : tie.Need-turn-requires-2
 turn-requires-2 c κs = search needs
 
--- src/lib.rt:160:1
 same-length : tie.Need-same-length
 same-length c = search needs
 
--- src/lib.rt:160:1
 returns-2 : tie.Need-returns-2
 returns-2 c = let s = c .before .before .before .before .before .before .before .before .before .before .before .before .before .before .before in
     let a = c .before .before .before .before .before .before .before .look in (
@@ -56,11 +43,9 @@ returns-2 c = let s = c .before .before .before .before .before .before .before 
       λ u l h. rule-yes _ u l (s .pre .1) h (omega (arith, s .pre .0 .marked .hashed .long, a .kept .1 .1 .1 .0)) refl (c .before .before .before .before .if2 .taken) (a .ensures .1 u l (h .right)) (c .before .before .turn .ensures),
     )
 
--- src/lib.rt:160:1
 same-length-2 : tie.Need-same-length-2
 same-length-2 c = search needs
 
--- src/lib.rt:160:1
 returns-3 : tie.Need-returns-3
 returns-3 c = let s = c .before .before .before .before .before .before .before .before .before .before .before .before .before .before .before in
     let a = c .before .before .before .before .before .before .before .look in (
