@@ -1,0 +1,2 @@
+-- Where a tree stands in rows, and what a row lookup finds.
+pub mod Rows

@@ -1,0 +1,96 @@
+-- Rows of four words: what a lookup finds, where a tree stands, and what a row is up to its offset. Assumes nothing.
+use mathlib.Core.Path.{_≡_}
+use mathlib.Core.Bool.{Bool, true, false}
+use mathlib.Core.List.{List, [], _∷_, _++_}
+use Prim.Native.Nat.{ℕ, _+_, _*_, _/_, _<_, _≤_}
+use lib.ListN.{length, getD}
+use lib.Dec.{ltb, eqb}
+use Rattle.grammar.specs.Basic.{Bytes}
+use Rattle.grammar.specs.Tree.{Expr, size}
+use Rattle.grammar.specs.Rows.{Span, strRows, flat}
+use Rattle.grammar.specs.Text.{bytesAt}
+use Rattle.rows.specs.declared.Lookup.{Lookup}
+use Rattle.rows.specs.declared.Lookup.the-variants.{Row, Refused}
+use Rattle.rows.specs.declared.Shape.{Shape}
+use Rattle.rows.specs.declared.Shape.the-variants.{Lit, Num, One, Two, Skips}
+
+-- the four words of row i
+unfoldable pub kindAt : List ℕ → ℕ → ℕ
+kindAt w i = getD w (i * 4) 0
+
+unfoldable pub xAt : List ℕ → ℕ → ℕ
+xAt w i = getD w (i * 4 + 1) 0
+
+unfoldable pub yAt : List ℕ → ℕ → ℕ
+yAt w i = getD w (i * 4 + 2) 0
+
+unfoldable pub sizeAt : List ℕ → ℕ → ℕ
+sizeAt w i = getD w (i * 4 + 3) 0
+
+abbrev pub pickLookup : Bool → Lookup → Lookup → Lookup
+pickLookup true a b = a
+pickLookup false a b = b
+
+-- row i, where all four of its words are there
+unfoldable pub rowAt : List ℕ → ℕ → Lookup
+rowAt w i = pickLookup (ltb i (length w / 4)) (Row (kindAt w i) (xAt w i) (yAt w i) (sizeAt w i)) Refused
+
+-- the tree r stands in the words, with its root at row i
+pub record At (w : List ℕ) (i : ℕ) (r : Expr Span) : Type 0 where
+  pub before : List ℕ
+  pub after : List ℕ
+  pub whole : w ≡ before ++ (flat r ++ after)
+  pub place : length before + size r * 4 ≡ i * 4 + 4
+
+-- the Str rows of the strings ss stand in the words from row j on
+pub record AtStrs (w : List ℕ) (j : ℕ) (ss : List Span) : Type 0 where
+  pub before : List ℕ
+  pub after : List ℕ
+  pub whole : w ≡ before ++ (strRows ss ++ after)
+  pub place : length before ≡ j * 4
+
+-- some tree stands there
+pub record Stands (w : List ℕ) (i : ℕ) : Type 0 where
+  pub tree : Expr Span
+  pub at : At w i tree
+
+-- what a row of a kind has: a literal, two numbers, one child, two children, strings
+abbrev pub pickShape : Bool → Shape → Shape → Shape
+pickShape true a b = a
+pickShape false a b = b
+
+unfoldable pub shapeOf : ℕ → Shape
+shapeOf k =
+    pickShape (ltb k 2) Lit
+    (pickShape (eqb k 3) Lit
+    (pickShape (ltb k 6) Num
+    (pickShape (eqb k 8) Two
+    (pickShape (eqb k 9) Two
+    (pickShape (eqb k 17) Skips One)))))
+
+-- every literal of the rows lies in a text of n bytes
+abbrev pub Inside : List ℕ → ℕ → Type 0
+Inside w n = (i : ℕ) → i < length w / 4 → shapeOf (kindAt w i) ≡ Lit → xAt w i + yAt w i ≤ n
+
+-- a row up to its offset: its kind, its numbers, its literal's bytes
+pub data Cell : Type 0 where
+  cell : ℕ → ℕ → ℕ → Bytes → Cell
+
+abbrev pub cellBy : Shape → Bytes → ℕ → ℕ → ℕ → Cell
+cellBy Lit t k x y = cell k 0 0 (bytesAt t (x, y))
+cellBy Num t k x y = cell k x y []
+cellBy One t k x y = cell k x y []
+cellBy Two t k x y = cell k x y []
+cellBy Skips t k x y = cell k x y []
+
+unfoldable pub cellOf : Bytes → ℕ → ℕ → ℕ → Cell
+cellOf t k x y = cellBy (shapeOf k) t k x y
+
+-- row i of a table with the text t, up to its offset
+unfoldable pub cellAt : Bytes → List ℕ → ℕ → Cell
+cellAt t w i = cellOf t (kindAt w i) (xAt w i) (yAt w i)
+
+-- a bool tells whether P holds
+abbrev pub Tells : Bool → Type 0 → Type 0
+Tells true P = P
+Tells false P = P → ⊥

@@ -1,0 +1,212 @@
+// Reading and comparing postfix rows of four words.
+ghost use mathlib.Core.Path.{_≡_};
+ghost use Prim.Native.Nat.{ℕ, _+_, _≤_, _<_, _/_};
+ghost use lib.ListN.{length};
+ghost use Rattle.grammar.specs.Tree.{Expr};
+ghost use Rattle.grammar.specs.Rows.{Span};
+ghost use Rattle.grammar.specs.Text.{bytesAt, resolve};
+ghost use Rattle.rows.specs.Rows.{rowAt, shapeOf, cellAt, Tells, Inside, At, Stands};
+
+// What a row lookup finds.
+pub enum Lookup {
+    Row {
+        kind: u32,
+        x: u32,
+        y: u32,
+        size: u32,
+    },
+    Refused,
+}
+
+// What a row of a kind has: a literal, two numbers, one child, two children, strings.
+pub enum Shape {
+    Lit,
+    Num,
+    One,
+    Two,
+    Skips,
+}
+
+// A word as an index.
+pub fn wide(x: u32) -> usize
+    ensures { λ r. ⌜ r ≡ x ⌝ }
+{
+    x as usize
+}
+
+// Row i, or Refused where it is not there.
+pub fn row_at(rows: &[u32], i: usize) -> Lookup
+    ensures { λ r. ⌜ r ≡ rowAt (now (rows .entry)) i ⌝ }
+{
+    if i < rows.len() / 4 {
+        let at = i * 4;
+        Lookup::Row {
+            kind: rows[at],
+            x: rows[at + 1],
+            y: rows[at + 2],
+            size: rows[at + 3],
+        }
+    } else {
+        Lookup::Refused
+    }
+}
+
+// The shape of a kind.
+pub fn shape_of(kind: u32) -> Shape
+    ensures { λ r. ⌜ r ≡ shapeOf kind ⌝ }
+{
+    if kind < 2 {
+        return Shape::Lit;
+    }
+    if kind == 3 {
+        return Shape::Lit;
+    }
+    if kind < 6 {
+        return Shape::Num;
+    }
+    if kind == 8 {
+        return Shape::Two;
+    }
+    if kind == 9 {
+        return Shape::Two;
+    }
+    if kind == 17 {
+        return Shape::Skips;
+    }
+    Shape::One
+}
+
+// The bytes of the literal with offset x and length n.
+pub fn part(text: &[u8], x: usize, n: usize) -> &[u8]
+    requires { ⌜ x + n ≤ length (now text) ⌝ }
+    ensures { λ r. ⌜ now r ≡ bytesAt (now (text .entry)) (x, n) ⌝ }
+{
+    let end = x + n;
+    &text[x..end]
+}
+
+// Whether n bytes of one text from x and of another from y are the same.
+pub fn same_bytes(text1: &[u8], x: usize, text2: &[u8], y: usize, n: usize) -> bool
+    requires { ⌜ (x + n ≤ length (now text1)) × (y + n ≤ length (now text2)) ⌝ }
+    ensures { λ r. ⌜ Tells r (bytesAt (now (text1 .entry)) (x, n) ≡ bytesAt (now (text2 .entry)) (y, n)) ⌝ }
+{
+    let mut i = 0;
+    while i < n {
+        if text1[x + i] != text2[y + i] {
+            return false;
+        }
+        i += 1;
+    }
+    true
+}
+
+// Whether row i of one table and row j of another are the same up to the offsets of their literals.
+pub fn same_row(
+    rows1: &[u32],
+    text1: &[u8],
+    i: usize,
+    rows2: &[u32],
+    text2: &[u8],
+    j: usize,
+) -> bool
+    requires { ⌜ (i < length (now rows1) / 4) × (j < length (now rows2) / 4) ⌝ }
+    requires { ⌜ Inside (now rows1) (length (now text1)) ⌝ }
+    requires { ⌜ Inside (now rows2) (length (now text2)) ⌝ }
+    ensures { λ r. ⌜ Tells r (cellAt (now (text1 .entry)) (now (rows1 .entry)) i ≡ cellAt (now (text2 .entry)) (now (rows2 .entry)) j) ⌝ }
+{
+    let Lookup::Row {
+        kind: k,
+        x: x1,
+        y: y1,
+        size: _,
+    } = row_at(rows1, i)
+    else {
+        return false;
+    };
+    let Lookup::Row {
+        kind: l,
+        x: x2,
+        y: y2,
+        size: _,
+    } = row_at(rows2, j)
+    else {
+        return false;
+    };
+    if k != l {
+        return false;
+    }
+    // a literal's length, before its bytes
+    if y1 != y2 {
+        return false;
+    }
+    if let Shape::Lit = shape_of(k) {
+        same_bytes(text1, x1 as usize, text2, x2 as usize, y1 as usize)
+    } else {
+        x1 == x2
+    }
+}
+
+// Whether n rows of one table from i and of another from j are the same, one by one, up to offsets.
+pub fn same_rows(
+    rows1: &[u32],
+    text1: &[u8],
+    i: usize,
+    rows2: &[u32],
+    text2: &[u8],
+    j: usize,
+    n: usize,
+) -> bool
+    requires { ⌜ (i + n ≤ length (now rows1) / 4) × (j + n ≤ length (now rows2) / 4) ⌝ }
+    requires { ⌜ Inside (now rows1) (length (now text1)) ⌝ }
+    requires { ⌜ Inside (now rows2) (length (now text2)) ⌝ }
+    ensures { λ r. ⌜ Tells r ((k : ℕ) → k < n → cellAt (now (text1 .entry)) (now (rows1 .entry)) (i + k) ≡ cellAt (now (text2 .entry)) (now (rows2 .entry)) (j + k)) ⌝ }
+{
+    let mut k = 0;
+    while k < n {
+        if !same_row(rows1, text1, i + k, rows2, text2, j + k) {
+            return false;
+        }
+        k += 1;
+    }
+    true
+}
+
+// Whether the subtrees with their roots at row i of one table and row j of another are equal; offsets don't count.
+pub fn same_tree(
+    rows1: &[u32],
+    text1: &[u8],
+    i: usize,
+    rows2: &[u32],
+    text2: &[u8],
+    j: usize,
+) -> bool
+    requires { ⌜ Inside (now rows1) (length (now text1)) ⌝ }
+    requires { ⌜ Inside (now rows2) (length (now text2)) ⌝ }
+    requires { ⌜ Stands (now rows1) i ⌝ }
+    requires { ⌜ Stands (now rows2) j ⌝ }
+    ensures { λ b. ⌜ ((r s : Expr Span) → At (now (rows1 .entry)) i r → At (now (rows2 .entry)) j s → Tells b (resolve (now (text1 .entry)) r ≡ resolve (now (text2 .entry)) s)) ⌝ }
+{
+    let Lookup::Row {
+        kind: _,
+        x: _,
+        y: _,
+        size: n,
+    } = row_at(rows1, i)
+    else {
+        return false;
+    };
+    let Lookup::Row {
+        kind: _,
+        x: _,
+        y: _,
+        size: m,
+    } = row_at(rows2, j)
+    else {
+        return false;
+    };
+    if n != m {
+        return false;
+    }
+    let rows = n as usize;
+    same_rows(rows1, text1, i + 1 - rows, rows2, text2, j + 1 - rows, rows)
+}

@@ -1,0 +1,1 @@
+-- Laws of writing, that step proofs use.

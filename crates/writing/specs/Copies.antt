@@ -1,0 +1,43 @@
+-- A run of rows with its literals packed, whatever trees they are of. Assumes nothing.
+use mathlib.Core.List.{List, [], _++_}
+use Prim.Native.Nat.{ℕ, zero, suc, _+_}
+use lib.ListN.{length}
+use Rattle.grammar.specs.Basic.{Bytes}
+use Rattle.grammar.specs.Rows.{row}
+use Rattle.grammar.specs.Text.{bytesAt}
+use Rattle.rows.specs.declared.Shape.{Shape}
+use Rattle.rows.specs.declared.Shape.the-variants.{Lit, Num, One, Two, Skips}
+use Rattle.rows.specs.Rows.{kindAt, xAt, yAt, sizeAt, shapeOf}
+
+-- the text of a row: its literal, if it has one
+abbrev pub textBy : Shape → Bytes → ℕ → ℕ → Bytes
+textBy Lit t x y = bytesAt t (x, y)
+textBy Num t x y = []
+textBy One t x y = []
+textBy Two t x y = []
+textBy Skips t x y = []
+
+-- the words of a row with its literal s at offset o
+abbrev pub wordsBy : Shape → ℕ → Bytes → ℕ → ℕ → ℕ → ℕ → List ℕ
+wordsBy Lit o s k x y n = row (k, o, length s) 1
+wordsBy Num o s k x y n = row (k, x, y) n
+wordsBy One o s k x y n = row (k, x, y) n
+wordsBy Two o s k x y n = row (k, x, y) n
+wordsBy Skips o s k x y n = row (k, x, y) n
+
+-- row i of the words w with the text t
+unfoldable pub rowText : Bytes → List ℕ → ℕ → Bytes
+rowText t w i = textBy (shapeOf (kindAt w i)) t (xAt w i) (yAt w i)
+
+unfoldable pub rowWords : ℕ → Bytes → List ℕ → ℕ → List ℕ
+unfolding rowText
+rowWords o t w i = wordsBy (shapeOf (kindAt w i)) o (rowText t w i) (kindAt w i) (xAt w i) (yAt w i) (sizeAt w i)
+
+-- n rows from row i on, their literals packed from offset o on
+abbrev pub runText : Bytes → List ℕ → ℕ → ℕ → Bytes
+runText t w i zero = []
+runText t w i (suc n) = rowText t w i ++ runText t w (i + 1) n
+
+abbrev pub runWords : ℕ → Bytes → List ℕ → ℕ → ℕ → List ℕ
+runWords o t w i zero = []
+runWords o t w i (suc n) = rowWords o t w i ++ runWords (o + length (rowText t w i)) t w (i + 1) n

@@ -1,0 +1,208 @@
+// Writing rows and text at a place of two lent areas: a row, a literal, the packed copy of a subtree.
+ghost use mathlib.Core.Path.{_≡_};
+ghost use mathlib.Core.List.{List, map};
+ghost use Prim.Native.Nat.{ℕ, _+_, _*_, _/_, _≤_, _<_};
+ghost use lib.ListN.{length};
+ghost use Rattle.grammar.specs.Tree.{Expr};
+ghost use Rattle.grammar.specs.Rows.{Span, row};
+ghost use Rattle.grammar.specs.Text.{bytesAt, resolve};
+ghost use Rattle.rows.specs.Rows.{Inside, At, AtStrs, Stands};
+ghost use Rattle.writing.specs.Writes.{stored, Areas, Room, PutAnswer, RowAnswer, LitAnswer, StandStrs, StrsAnswer, Answer};
+ghost use Rattle.writing.specs.Keeps.{KeptAnswer, Ready};
+ghost use Rattle.writing.specs.Copies.{rowText, rowWords, runText, runWords};
+use rows::Lookup;
+use rows::Shape;
+
+// Where the next row and the next byte of text go.
+pub struct Place {
+    pub rows: usize,
+    pub text: usize,
+}
+
+// The place after what was written, or Full where it does not fit.
+pub enum Wrote {
+    Done(Place),
+    Full,
+}
+
+// Copies n bytes of src from x to dst at `at`.
+pub fn copy_bytes(src: &[u8], x: usize, n: usize, dst: &mut [u8], at: usize)
+    requires { ⌜ (x + n ≤ length (now src)) × (at + n ≤ length (now dst)) ⌝ }
+    ensures { λ _. ⌜ now (dst .exit) ≡ stored (now (dst .entry)) at (bytesAt (now (src .entry)) (x, n)) ⌝ }
+{
+    let mut i = 0;
+    while i < n {
+        dst[at + i] = src[x + i];
+        i += 1;
+    }
+}
+
+// Writes row i, where there is room for it.
+pub fn set_row(out: &mut [u32], i: usize, kind: u32, x: u32, y: u32, size: u32)
+    requires { ⌜ i < length (now out) / 4 ⌝ }
+    ensures { λ _. ⌜ now (out .exit) ≡ stored (now (out .entry)) (i * 4) (row (kind, x, y) size) ⌝ }
+{
+    let at = i * 4;
+    out[at] = kind;
+    out[at + 1] = x;
+    out[at + 2] = y;
+    out[at + 3] = size;
+}
+
+// Writes one row at p.
+pub fn put_row(out: &mut [u32], p: Place, kind: u32, x: u32, y: u32, size: u32) -> Wrote
+    ensures { λ r. ⌜ RowAnswer r p (kind, x, y) size (now (out .entry)) (now (out .exit)) ⌝ }
+{
+    let i = p.rows;
+    if i < out.len() / 4 {
+        set_row(out, i, kind, x, y, size);
+        Wrote::Done(Place {
+            rows: i + 1,
+            text: p.text,
+        })
+    } else {
+        Wrote::Full
+    }
+}
+
+// Writes a literal's bytes and its row at p.
+pub fn put_lit(
+    text: &[u8],
+    x: usize,
+    n: usize,
+    kind: u32,
+    out: &mut [u32],
+    lits: &mut [u8],
+    p: Place,
+) -> Wrote
+    requires { ⌜ x + n ≤ length (now text) ⌝ }
+    requires { ⌜ Room p (now out) (now lits) ⌝ }
+    ensures { λ r. ⌜ LitAnswer r p kind (bytesAt (now (text .entry)) (x, n)) (now (out .entry)) (now (out .exit)) (now (lits .entry)) (now (lits .exit)) ⌝ }
+{
+    let at = p.text;
+    if lits.len() - at < n {
+        return Wrote::Full;
+    }
+    copy_bytes(text, x, n, lits, at);
+    let q = Place {
+        rows: p.rows,
+        text: at + n,
+    };
+    put_row(out, q, kind, at as u32, n as u32, 1)
+}
+
+// Writes row i of a table at p, its literal packed.
+fn copy_row(
+    rows: &[u32],
+    text: &[u8],
+    i: usize,
+    out: &mut [u32],
+    lits: &mut [u8],
+    p: Place,
+) -> Wrote
+    requires { ⌜ i < length (now rows) / 4 ⌝ }
+    requires { ⌜ Inside (now rows) (length (now text)) ⌝ }
+    requires { ⌜ Room p (now out) (now lits) ⌝ }
+    ensures { λ a. ⌜ PutAnswer a p 1 (rowWords (p .text) (now (text .entry)) (now (rows .entry)) i) (rowText (now (text .entry)) (now (rows .entry)) i) (now (out .entry)) (now (out .exit)) (now (lits .entry)) (now (lits .exit)) ⌝ }
+{
+    let Lookup::Row { kind, x, y, size } = rows::row_at(rows, i) else {
+        return Wrote::Full;
+    };
+    if let Shape::Lit = rows::shape_of(kind) {
+        put_lit(text, x as usize, y as usize, kind, out, lits, p)
+    } else {
+        put_row(out, p, kind, x, y, size)
+    }
+}
+
+// Writes n rows of a table from row i on at p, their literals packed.
+fn copy_rows(
+    rows: &[u32],
+    text: &[u8],
+    i: usize,
+    n: usize,
+    out: &mut [u32],
+    lits: &mut [u8],
+    p: Place,
+) -> Wrote
+    requires { ⌜ i + n ≤ length (now rows) / 4 ⌝ }
+    requires { ⌜ Inside (now rows) (length (now text)) ⌝ }
+    requires { ⌜ Room p (now out) (now lits) ⌝ }
+    ensures { λ a. ⌜ PutAnswer a p n (runWords (p .text) (now (text .entry)) (now (rows .entry)) i n) (runText (now (text .entry)) (now (rows .entry)) i n) (now (out .entry)) (now (out .exit)) (now (lits .entry)) (now (lits .exit)) ⌝ }
+{
+    let mut q = p;
+    let mut k = 0;
+    while k < n {
+        let Wrote::Done(s) = copy_row(rows, text, i + k, out, lits, q) else {
+            return Wrote::Full;
+        };
+        q = s;
+        k += 1;
+    }
+    Wrote::Done(q)
+}
+
+// Writes the k strings of a Skip that stand from row `first` on, their literals packed.
+pub fn copy_strs(
+    rows: &[u32],
+    text: &[u8],
+    first: usize,
+    k: usize,
+    out: &mut [u32],
+    lits: &mut [u8],
+    p: Place,
+) -> Wrote
+    requires { ⌜ Inside (now rows) (length (now text)) ⌝ }
+    requires { ⌜ StandStrs (now rows) first k ⌝ }
+    requires { ⌜ Room p (now out) (now lits) ⌝ }
+    ensures { λ a. ⌜ ((ss : List Span) → AtStrs (now (rows .entry)) first ss → length ss ≡ k → StrsAnswer a p (map (bytesAt (now (text .entry))) ss) (now (out .entry)) (now (out .exit)) (now (lits .entry)) (now (lits .exit))) ⌝ }
+{
+    copy_rows(rows, text, first, k, out, lits, p)
+}
+
+// Writes the subtree of row `root` at p, its literals packed.
+pub fn copy(
+    rows: &[u32],
+    text: &[u8],
+    root: usize,
+    out: &mut [u32],
+    lits: &mut [u8],
+    p: Place,
+) -> Wrote
+    requires { ⌜ Inside (now rows) (length (now text)) ⌝ }
+    requires { ⌜ Stands (now rows) root ⌝ }
+    requires { ⌜ Room p (now out) (now lits) ⌝ }
+    ensures { λ a. ⌜ ((r : Expr Span) → At (now (rows .entry)) root r → Answer a p (resolve (now (text .entry)) r) (now (out .entry)) (now (out .exit)) (now (lits .entry)) (now (lits .exit))) ⌝ }
+{
+    let Lookup::Row {
+        kind: _,
+        x: _,
+        y: _,
+        size,
+    } = rows::row_at(rows, root)
+    else {
+        return Wrote::Full;
+    };
+    let n = size as usize;
+    copy_rows(rows, text, root + 1 - n, n, out, lits, p)
+}
+
+// Writes the subtree of row `root`, which fits, at p, its literals packed.
+pub fn keep(
+    rows: &[u32],
+    text: &[u8],
+    root: usize,
+    out: &mut [u32],
+    lits: &mut [u8],
+    p: Place,
+) -> Wrote
+    requires { ⌜ Inside (now rows) (length (now text)) ⌝ }
+    requires { ⌜ Ready (now rows) (now text) root p (now out) (now lits) ⌝ }
+    requires { ⌜ Areas (now out) (now lits) ⌝ }
+    ensures { λ a. ⌜ ((r : Expr Span) → At (now (rows .entry)) root r → KeptAnswer a p (resolve (now (text .entry)) r) (now (out .entry)) (now (out .exit)) (now (lits .entry)) (now (lits .exit))) ⌝ }
+{
+    let Wrote::Done(q) = copy(rows, text, root, out, lits, p) else {
+        return Wrote::Full;
+    };
+    Wrote::Done(q)
+}
