@@ -1,0 +1,1 @@
+-- Laws of names, that other crates' proofs cite.

@@ -1,0 +1,2 @@
+-- Rules found by name.
+pub mod Names
