@@ -17,6 +17,10 @@ use Rattle.grammar.specs.Text.{bytesAt, resolve}
 use Rattle.rows.specs.declared.Shape.{Shape}
 use Rattle.rows.specs.declared.Shape.the-variants.{Lit, Num, One, Two, Skips}
 use Rattle.rows.specs.Rows.{kindAt, xAt, yAt, At, Cell, cell, shapeOf, cellBy, cellOf, cellAt, Tells, Inside}
+use types.Run.{OneOf}
+use denote.Enum.Declared.{tagOf}
+use mathlib.Core.Logic.{⊎-elim}
+use Rattle.rows.proofs.Shape as shape
 use Rattle.rows.proofs.Laws.{headOf, length-flat, flat-at, Found, length-part}
 
 -- ---- the shapes of the kinds, and the tags back from their words
@@ -55,6 +59,12 @@ bin-shape Choice = refl
 pub skip-shape : shapeOf 17 ≡ Skips
 unfolding shapeOf
 skip-shape = refl
+
+-- what the else of `if let Shape::Lit` knows: the shape is one of the others
+pub not-lit : (s : Shape) → OneOf (1 ∷ 2 ∷ 3 ∷ 4 ∷ []) (tagOf shape.the-type s) → s ≡ Lit → ⊥
+not-lit s o e =
+    let p : OneOf (1 ∷ 2 ∷ 3 ∷ 4 ∷ []) 0 = subst (λ (s : Shape). OneOf (1 ∷ 2 ∷ 3 ∷ 4 ∷ []) (tagOf shape.the-type s)) e o in
+    ⊎-elim (λ e. omega arith) (λ q. ⊎-elim (λ e. omega arith) (λ q. ⊎-elim (λ e. omega arith) (λ e. omega arith) q) q) p
 
 abbrev litFrom : ℕ → tree.Lit
 litFrom k = cond (eqb k 0) Str (cond (eqb k 1) Insens Ident)

@@ -30,7 +30,6 @@ unfoldable pub rowText : Bytes → List ℕ → ℕ → Bytes
 rowText t w i = textBy (shapeOf (kindAt w i)) t (xAt w i) (yAt w i)
 
 unfoldable pub rowWords : ℕ → Bytes → List ℕ → ℕ → List ℕ
-unfolding rowText
 rowWords o t w i = wordsBy (shapeOf (kindAt w i)) o (rowText t w i) (kindAt w i) (xAt w i) (yAt w i) (sizeAt w i)
 
 -- n rows from row i on, their literals packed from offset o on

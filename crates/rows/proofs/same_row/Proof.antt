@@ -1,24 +1,10 @@
-use mathlib.Core.Path.{_≡_, sym, ap, subst, _∙_}
-use mathlib.Core.List.{List, [], _∷_}
-use mathlib.Core.Logic.{⊎-elim}
-use native.Mathlib.Omega.{arith}
-use types.Run.{OneOf}
-use denote.Enum.Declared.{tagOf}
-use Rattle.rows.specs.declared.Shape.{Shape}
-use Rattle.rows.specs.declared.Shape.the-variants.{Lit}
+use mathlib.Core.Path.{_≡_, sym, ap, _∙_}
 use Rattle.rows.specs.Rows.{shapeOf}
-use Rattle.rows.proofs.Shape as shape
 use Rattle.rows.proofs.Laws.{Found, row-found, row-there}
-use Rattle.rows.proofs.Cells.{in-text, rows-kind, rows-y, lits-tell, numbers-tell}
+use Rattle.rows.proofs.Cells.{not-lit, in-text, rows-kind, rows-y, lits-tell, numbers-tell}
 use borrow.Author.Needs.{needs}
 use Rattle.rows.proofs.same_row.Statement.{statement}
 use Rattle.rows.proofs.same_row.Tie as tie
-
--- a shape that is none of the first
-not-lit : (s : Shape) → OneOf (1 ∷ 2 ∷ 3 ∷ 4 ∷ []) (tagOf shape.the-type s) → s ≡ Lit → ⊥
-not-lit s o e =
-    let p : OneOf (1 ∷ 2 ∷ 3 ∷ 4 ∷ []) 0 = subst (λ (s : Shape). OneOf (1 ∷ 2 ∷ 3 ∷ 4 ∷ []) (tagOf shape.the-type s)) e o in
-    ⊎-elim (λ e. omega arith) (λ q. ⊎-elim (λ e. omega arith) (λ q. ⊎-elim (λ e. omega arith) (λ e. omega arith) q) q) p
 
 -- the function's entry, and the two rows that were read
 abbrev start : tie.After-known-told2 → tie.Start
