@@ -16,7 +16,7 @@ use Rattle.grammar.specs.Rows.{Span, strRows, flat}
 use Rattle.grammar.specs.Text.{bytesAt, resolve}
 use Rattle.rows.specs.declared.Shape.{Shape}
 use Rattle.rows.specs.declared.Shape.the-variants.{Lit, Num, One, Two, Skips}
-use Rattle.rows.specs.Rows.{kindAt, xAt, yAt, At, Cell, cell, shapeOf, cellBy, cellOf, cellAt, Tells, Inside}
+use Rattle.rows.specs.Rows.{kindAt, xAt, yAt, At, Cell, cell, shapeOf, cellBy, cellOf, cellAt, Tells, LitInside, Inside}
 use types.Run.{OneOf}
 use denote.Enum.Declared.{tagOf}
 use mathlib.Core.Logic.{⊎-elim}
@@ -371,8 +371,11 @@ unfolding cellAt
 cell-found t f = rw (f .kind, f .x, f .y)
 
 -- a literal that was read lies in the text
-pub in-text : {m : ℕ} {w : List ℕ} {i k x y n : ℕ} → Inside w m → Found w i k x y n → shapeOf k ≡ Lit → x + y ≤ m
-in-text {m} {w} {i} {k} {x} {y} ins f s = rw (f .x, f .y) at (ins i (f .within) (rw (f .kind) s))
+pub lit-inside : (m : ℕ) {w : List ℕ} {i k x y n : ℕ} → LitInside w m i → Found w i k x y n → shapeOf k ≡ Lit → x + y ≤ m
+lit-inside m {w} {i} {k} {x} {y} ins f s = rw (f .x, f .y) at (ins (rw (f .kind) s))
+
+pub in-text : (m : ℕ) {w : List ℕ} {i k x y n : ℕ} → Inside w m → Found w i k x y n → shapeOf k ≡ Lit → x + y ≤ m
+in-text m {w} {i} ins f s = lit-inside m (ins i (f .within)) f s
 
 -- two rows that were read
 module _ (t u : Bytes) {w v : List ℕ} {i k x y n j l x′ y′ n′ : ℕ} (f : Found w i k x y n) (g : Found v j l x′ y′ n′) where
@@ -383,12 +386,12 @@ module _ (t u : Bytes) {w v : List ℕ} {i k x y n j l x′ y′ n′ : ℕ} (f 
   unfolding cellOf
   rows-kind e = sym (cell-kind (shapeOf k) t k x y) ∙ ap kindIn (cells-of e) ∙ cell-kind (shapeOf l) u l x′ y′
 
-  pub rows-y : Inside w (length t) → Inside v (length u) → k ≡ l → cellAt t w i ≡ cellAt u v j → y ≡ y′
+  pub rows-y : LitInside w (length t) i → LitInside v (length u) j → k ≡ l → cellAt t w i ≡ cellAt u v j → y ≡ y′
   unfolding cellOf
   rows-y ins inu q e = go (shapeOf k) refl (cells-of e ∙ ap (λ (m : ℕ). cellOf u m x′ y′) (sym q))
     where
       go : (s : Shape) → shapeOf k ≡ s → cellBy s t k x y ≡ cellBy s u k x′ y′ → y ≡ y′
-      go Lit h p = sym (length-part t x y (in-text ins f h)) ∙ ap (λ (c : Cell). length (bytesIn c)) p ∙ length-part u x′ y′ (in-text inu g (ap shapeOf (sym q) ∙ h))
+      go Lit h p = sym (length-part t x y (lit-inside (length t) ins f h)) ∙ ap (λ (c : Cell). length (bytesIn c)) p ∙ length-part u x′ y′ (lit-inside (length u) inu g (ap shapeOf (sym q) ∙ h))
       go Num h p = ap yIn p
       go One h p = ap yIn p
       go Two h p = ap yIn p

@@ -148,6 +148,12 @@ at-others {w} {j} {s} {ss} a = record {
   place = simp length-append (omega (arith, a .place));
 }
 
+-- some strings lie in the table
+pub strs-inside : {w : List ℕ} {j : ℕ} {ss : List Span} → AtStrs w j ss → j + length ss ≤ length w / 4
+strs-inside {w} {j} {ss} a =
+    let n : length w ≡ length (a .before) + (length (strRows ss) + length (a .after)) = ap length (a .whole) ∙ simp length-append in
+    omega (arith, a .place, length-strRows ss)
+
 -- a tree's words, found in the table
 pub flat-at : {w : List ℕ} {i : ℕ} {r : Expr Span} → At w i r → (n : ℕ) → n < size r * 4 → getD w ((i + 1 - size r) * 4 + n) 0 ≡ getD (flat r) n 0
 flat-at {w} {i} {r} a n h =

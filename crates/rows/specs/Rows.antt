@@ -6,7 +6,7 @@ use Prim.Native.Nat.{ℕ, _+_, _*_, _/_, _<_, _≤_}
 use lib.ListN.{length, getD}
 use lib.Dec.{ltb, eqb}
 use Rattle.grammar.specs.Basic.{Bytes}
-use Rattle.grammar.specs.Tree.{Expr, size}
+use Rattle.grammar.specs.Tree.{Expr, lit, fixed, skip, un, bin, size}
 use Rattle.grammar.specs.Rows.{Span, strRows, flat}
 use Rattle.grammar.specs.Text.{bytesAt}
 use Rattle.rows.specs.declared.Lookup.{Lookup}
@@ -68,9 +68,31 @@ shapeOf k =
     (pickShape (eqb k 9) Two
     (pickShape (eqb k 17) Skips One)))))
 
--- every literal of the rows lies in a text of n bytes
+-- the literal of row i, if the row has one, lies in a text of n bytes
+abbrev pub LitInside : List ℕ → ℕ → ℕ → Type 0
+LitInside w n i = shapeOf (kindAt w i) ≡ Lit → xAt w i + yAt w i ≤ n
+
+-- every literal of the rows does
 abbrev pub Inside : List ℕ → ℕ → Type 0
-Inside w n = (i : ℕ) → i < length w / 4 → shapeOf (kindAt w i) ≡ Lit → xAt w i + yAt w i ≤ n
+Inside w n = (i : ℕ) → i < length w / 4 → LitInside w n i
+
+-- every literal of a tree does
+abbrev pub AllWithin : ℕ → List Span → Type 0
+AllWithin n [] = Unit {0}
+AllWithin n (s ∷ ss) = (s .0 + s .1 ≤ n) × AllWithin n ss
+
+abbrev pub Within : ℕ → Expr Span → Type 0
+Within n (lit k s) = s .0 + s .1 ≤ n
+Within n (fixed f) = Unit {0}
+Within n (skip ss) = AllWithin n ss
+Within n (un u e) = Within n e
+Within n (bin b l r) = Within n l × Within n r
+
+-- some tree stands there, and its literals lie in a text of n bytes
+pub record StandsIn (w : List ℕ) (i n : ℕ) : Type 0 where
+  pub tree : Expr Span
+  pub at : At w i tree
+  pub within : Within n tree
 
 -- a row up to its offset: its kind, its numbers, its literal's bytes
 pub data Cell : Type 0 where

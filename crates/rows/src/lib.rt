@@ -5,7 +5,7 @@ ghost use lib.ListN.{length};
 ghost use Rattle.grammar.specs.Tree.{Expr};
 ghost use Rattle.grammar.specs.Rows.{Span};
 ghost use Rattle.grammar.specs.Text.{bytesAt, resolve};
-ghost use Rattle.rows.specs.Rows.{rowAt, shapeOf, cellAt, Tells, Inside, At, Stands};
+ghost use Rattle.rows.specs.Rows.{rowAt, shapeOf, cellAt, Tells, LitInside, At, StandsIn};
 
 // What a row lookup finds.
 pub enum Lookup {
@@ -110,8 +110,8 @@ pub fn same_row(
     j: usize,
 ) -> bool
     requires { ⌜ (i < length (now rows1) / 4) × (j < length (now rows2) / 4) ⌝ }
-    requires { ⌜ Inside (now rows1) (length (now text1)) ⌝ }
-    requires { ⌜ Inside (now rows2) (length (now text2)) ⌝ }
+    requires { ⌜ LitInside (now rows1) (length (now text1)) i ⌝ }
+    requires { ⌜ LitInside (now rows2) (length (now text2)) j ⌝ }
     ensures { λ r. ⌜ Tells r (cellAt (now (text1 .entry)) (now (rows1 .entry)) i ≡ cellAt (now (text2 .entry)) (now (rows2 .entry)) j) ⌝ }
 {
     let Lookup::Row {
@@ -157,8 +157,8 @@ pub fn same_rows(
     n: usize,
 ) -> bool
     requires { ⌜ (i + n ≤ length (now rows1) / 4) × (j + n ≤ length (now rows2) / 4) ⌝ }
-    requires { ⌜ Inside (now rows1) (length (now text1)) ⌝ }
-    requires { ⌜ Inside (now rows2) (length (now text2)) ⌝ }
+    requires { ⌜ ((k : ℕ) → k < n → LitInside (now rows1) (length (now text1)) (i + k)) ⌝ }
+    requires { ⌜ ((k : ℕ) → k < n → LitInside (now rows2) (length (now text2)) (j + k)) ⌝ }
     ensures { λ r. ⌜ Tells r ((k : ℕ) → k < n → cellAt (now (text1 .entry)) (now (rows1 .entry)) (i + k) ≡ cellAt (now (text2 .entry)) (now (rows2 .entry)) (j + k)) ⌝ }
 {
     let mut k = 0;
@@ -180,10 +180,8 @@ pub fn same_tree(
     text2: &[u8],
     j: usize,
 ) -> bool
-    requires { ⌜ Inside (now rows1) (length (now text1)) ⌝ }
-    requires { ⌜ Inside (now rows2) (length (now text2)) ⌝ }
-    requires { ⌜ Stands (now rows1) i ⌝ }
-    requires { ⌜ Stands (now rows2) j ⌝ }
+    requires { ⌜ StandsIn (now rows1) i (length (now text1)) ⌝ }
+    requires { ⌜ StandsIn (now rows2) j (length (now text2)) ⌝ }
     ensures { λ b. ⌜ ((r s : Expr Span) → At (now (rows1 .entry)) i r → At (now (rows2 .entry)) j s → Tells b (resolve (now (text1 .entry)) r ≡ resolve (now (text2 .entry)) s)) ⌝ }
 {
     let Lookup::Row {

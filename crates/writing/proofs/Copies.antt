@@ -13,13 +13,13 @@ use Rattle.grammar.specs.Text.{bytesAt, resolve, joined, textOf, spans, packed}
 use Rattle.rows.specs.declared.Shape.{Shape}
 use Rattle.rows.specs.declared.Shape.the-variants.{Lit, Num, One, Two, Skips}
 use Rattle.rows.specs.Rows.{kindAt, xAt, yAt, sizeAt, shapeOf, At, AtStrs}
-use Rattle.rows.proofs.Laws.{headOf, Found, root-found, at-un, at-left, at-right, at-strs, at-first, at-others, size-pos}
+use Rattle.rows.proofs.Laws.{root, Found, root-found, at-un, at-left, at-right, at-strs, at-first, at-others, size-pos}
 use Rattle.rows.proofs.Cells.{lit-shape, fixed-shape, un-shape, bin-shape, skip-shape, size-resolve}
-use Rattle.writing.proofs.Trees.{length-spans, size-packed}
+use Rattle.writing.proofs.Trees.{length-spans, size-packed, put-answer}
 use Rattle.writing.specs.declared.Place.{Place}
 use Rattle.writing.specs.declared.Wrote.{Wrote}
 use Rattle.writing.specs.declared.Wrote.the-variants.{Done, Full}
-use Rattle.writing.specs.Writes.{Fit, Put, PutAnswer, RowAnswer, LitAnswer}
+use Rattle.writing.specs.Writes.{Fit, Put, PutAnswer, RowAnswer, LitAnswer, StrsAnswer, Answer}
 use Rattle.writing.proofs.Puts.{put-row, put-then, fit-front}
 use Rattle.writing.specs.Copies.{textBy, wordsBy, rowText, rowWords, runText, runWords}
 
@@ -185,3 +185,14 @@ module _ (t : Bytes) (w : List ℕ) (i k : ℕ) {q p : Place} {o o₁ b b₁ : L
       let e : n ≡ k + 1 + (n - (k + 1)) = omega arith in
       let g : Fit p (k + 1 + (n - (k + 1))) (length (runText t w i (k + 1) ++ runText t w (i + (k + 1)) (n - (k + 1)))) o b = rw (← (text-append t w i (k + 1) (n - (k + 1))), ← e) f in
       run-more Full o₁ b₁ h (fit-front (k + 1) (n - (k + 1)) (runText t w i (k + 1)) _ g)
+
+-- all rows of a tree, and of a Skip's strings
+module _ (t : Bytes) {w : List ℕ} (a : Wrote) (p : Place) (o o′ b b′ : List ℕ) where
+  pub tree-copied : {i : ℕ} (n : ℕ) (r : Expr Span) → At w i r → n ≡ size r → PutAnswer a p n (runWords (p .text) t w (i + 1 - n) n) (runText t w (i + 1 - n) n) o o′ b b′ → Answer a p (resolve t r) o o′ b b′
+  tree-copied {i} n r s e h =
+      let l : i + 1 ≡ i + 1 - n + size r = omega (arith, root s .most) in
+      put-answer a p (resolve t r) o o′ b b′
+      (rw (size-resolve t r, ← (words-tree t (p .text) (i + 1 - n) r s l), ← (text-tree t (i + 1 - n) r s l), ← e) h)
+
+  pub strs-copied : {j : ℕ} (k : ℕ) (ss : List Span) → AtStrs w j ss → length ss ≡ k → PutAnswer a p k (runWords (p .text) t w j k) (runText t w j k) o o′ b b′ → StrsAnswer a p (map (bytesAt t) ss) o o′ b b′
+  strs-copied {j} k ss s e h = rw (length-map, ← (words-strs t (p .text) ss s), ← (text-strs t ss s), e) h

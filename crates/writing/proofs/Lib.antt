@@ -3,3 +3,4 @@ pub mod Runs
 pub mod Puts
 pub mod Trees
 pub mod Copies
+pub mod Keeps

@@ -201,8 +201,5 @@ pub fn keep(
     requires { ⌜ Areas (now out) (now lits) ⌝ }
     ensures { λ a. ⌜ ((r : Expr Span) → At (now (rows .entry)) root r → KeptAnswer a p (resolve (now (text .entry)) r) (now (out .entry)) (now (out .exit)) (now (lits .entry)) (now (lits .exit))) ⌝ }
 {
-    let Wrote::Done(q) = copy(rows, text, root, out, lits, p) else {
-        return Wrote::Full;
-    };
-    Wrote::Done(q)
+    copy(rows, text, root, out, lits, p)
 }

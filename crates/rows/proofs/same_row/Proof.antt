@@ -1,7 +1,7 @@
 use mathlib.Core.Path.{_≡_, sym, ap, _∙_}
 use Rattle.rows.specs.Rows.{shapeOf}
 use Rattle.rows.proofs.Laws.{Found, row-found, row-there}
-use Rattle.rows.proofs.Cells.{not-lit, in-text, rows-kind, rows-y, lits-tell, numbers-tell}
+use Rattle.rows.proofs.Cells.{not-lit, lit-inside, rows-kind, rows-y, lits-tell, numbers-tell}
 use borrow.Author.Needs.{needs}
 use Rattle.rows.proofs.same_row.Statement.{statement}
 use Rattle.rows.proofs.same_row.Tie as tie
@@ -67,8 +67,8 @@ same-bytes-requires : tie.Need-same-bytes-requires
 same-bytes-requires c κs =
     let m = c .before .before .before .before .before in
     let s = sym (c .before .before .shape-of .ensures) ∙ c .enum-told3 .given .1 in (
-      in-text (start m .pre .1 .0) (first m) s,
-      rw (c .before .before .before .if2 .left) (in-text (start m .pre .1 .1) (second m) (ap shapeOf (sym (c .before .before .before .before .if1 .left)) ∙ s)),
+      lit-inside _ (start m .pre .1 .0) (first m) s,
+      rw (c .before .before .before .if2 .left) (lit-inside _ (start m .pre .1 .1) (second m) (ap shapeOf (sym (c .before .before .before .before .if1 .left)) ∙ s)),
     )
 
 returns-5 : tie.Need-returns-5

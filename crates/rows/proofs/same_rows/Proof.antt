@@ -25,7 +25,9 @@ add-same-row-2 : tie.Need-add-same-row-2 Inv-loop μ-loop
 add-same-row-2 c = omega arith
 
 same-row-requires : tie.Need-same-row-requires Inv-loop μ-loop
-same-row-requires c κs = ((omega arith, omega arith), search needs)
+same-row-requires c κs =
+    let s = c .before .before .before .before .before .before in
+    ((omega arith, omega arith), (s .pre .1 .0 _ (c .loop-test .taken), s .pre .1 .1 _ (c .loop-test .taken)))
 
 returns : tie.Need-returns Inv-loop μ-loop
 returns c = λ h. tells-no (not-true (c .before .same-row .result) (c .if1 .taken)) (c .before .same-row .ensures) (h _ (c .before .before .loop-test .taken))

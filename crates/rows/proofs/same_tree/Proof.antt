@@ -4,6 +4,7 @@ use native.Mathlib.Omega.{arith}
 use lib.ListN.{length}
 use Rattle.rows.proofs.Laws.{Found, row-found, root, root-there, found-size}
 use Rattle.rows.proofs.Cells.{trees-size, trees-tell}
+use Rattle.rows.proofs.Views.{within-run}
 use borrow.Author.Needs.{needs}
 use Rattle.rows.proofs.same_tree.Statement.{statement}
 use Rattle.rows.proofs.same_tree.Tie as tie
@@ -20,10 +21,10 @@ second m = row-found (sym (m .before .before .before .row-at2 .ensures) ∙ m .b
 
 -- their subtrees lie in the tables
 first-fits : (m : tie.After-known-told2) → (m .before .before .before .before .before .n .given .0 .1 .1 .1 .0 ≤ start m .args .i + 1) × (start m .args .i < length (start m .args .rows1 .now) / 4)
-first-fits m = let a = start m .pre .1 .1 .0 .at in let t = root a in (omega (arith, found-size (first m) a), t .inside)
+first-fits m = let a = start m .pre .0 .at in let t = root a in (omega (arith, found-size (first m) a), t .inside)
 
 second-fits : (m : tie.After-known-told2) → (m .before .m .given .0 .1 .1 .1 .0 ≤ start m .args .j + 1) × (start m .args .j < length (start m .args .rows2 .now) / 4)
-second-fits m = let a = start m .pre .1 .1 .1 .at in let t = root a in (omega (arith, found-size (second m) a), t .inside)
+second-fits m = let a = start m .pre .1 .at in let t = root a in (omega (arith, found-size (second m) a), t .inside)
 
 row-at-requires : tie.Need-row-at-requires
 row-at-requires c κs = search needs
@@ -68,7 +69,16 @@ sub-same-rows-2 : tie.Need-sub-same-rows-2
 sub-same-rows-2 c = omega (arith, second-fits (c .before), c .if1 .left)
 
 same-rows-requires : tie.Need-same-rows-requires
-same-rows-requires c κs = let m = c .before in ((omega (arith, first-fits m), omega (arith, second-fits m, c .if1 .left)), (start m .pre .0, start m .pre .1 .0))
+same-rows-requires c κs =
+    let m = c .before in
+    let a = start m .pre .0 in
+    let b = start m .pre .1 in (
+      (omega (arith, first-fits m), omega (arith, second-fits m, c .if1 .left)),
+      (
+        within-run _ _ (a .at) (a .within) (found-size (first m) (a .at)),
+        within-run _ _ (b .at) (b .within) (c .if1 .left ∙ found-size (second m) (b .at)),
+      ),
+    )
 
 returns-4 : tie.Need-returns-4
 returns-4 c = let m = c .before .before in λ r s a b. trees-tell _ _ a b _ (c .same-rows .result) (found-size (first m) a) (c .before .if1 .left ∙ found-size (second m) b) (c .same-rows .ensures)

@@ -40,7 +40,7 @@ cast-put-lit-2 c = search needs
 put-lit-requires : tie.Need-put-lit-requires
 put-lit-requires c κs =
     let m = c .before .before .before .before .before in
-    (in-text (start m .pre .1 .0) (found m) (sym (c .before .before .before .before .shape-of .ensures) ∙ c .before .before .enum-told2 .given .1), start m .pre .1 .1)
+    (in-text _ (start m .pre .1 .0) (found m) (sym (c .before .before .before .before .shape-of .ensures) ∙ c .before .before .enum-told2 .given .1), start m .pre .1 .1)
 
 put-row-requires : tie.Need-put-row-requires
 put-row-requires c κs = search needs

@@ -47,7 +47,7 @@ loop-less : tie.Need-loop-less Inv-loop μ-loop
 loop-less c = omega arith
 
 loop-again : tie.Need-loop-again Inv-loop μ-loop
-loop-again c = 
+loop-again c =
     let l = c .before .before .before .before .before .before .before .before .before .before .before .loop in
     (omega arith, put-done _ _ _ _ _ _ _ _ (c .before .s .given .1) (run-more _ _ _ _ (l .inv .1) (c .before .before .before .before .before .before .before .copy-row .result) _ _ (c .before .before .before .before .before .before .before .copy-row .ensures)))
 
@@ -58,7 +58,7 @@ same-length-4 : tie.Need-same-length-4 Inv-loop μ-loop
 same-length-4 c = put-lits (c .before .loop .inv .1)
 
 returns-2 : tie.Need-returns-2 Inv-loop μ-loop
-returns-2 c = 
+returns-2 c =
     let l = c .before .loop in
     let e : l .k ≡ c .before .before .before .before .before .before .args .n = omega arith in
     rw (← e) (l .inv .1)
