@@ -1,1 +1,2 @@
--- none yet
+-- A step on every rule of a table.
+pub mod Passes

@@ -1,0 +1,93 @@
+// One pass over the rules of a table, for every step.
+ghost use mathlib.Core.Path.{_≡_};
+ghost use Prim.Native.Nat.{ℕ, _+_, _*_, _/_, _^_, _≤_, _<_};
+ghost use lib.ListN.{length, getD};
+ghost use Rattle.grammar.specs.Basic.{Bytes};
+ghost use Rattle.grammar.specs.Tree.{Expr};
+ghost use Rattle.grammar.specs.Rows.{Span};
+ghost use Rattle.grammar.specs.Text.{resolve, bytesAt};
+ghost use Rattle.grammar.specs.Table.{Table, resolveTable};
+ghost use Rattle.grammar.specs.Steps.{each};
+ghost use Rattle.rows.specs.Rows.{Inside, At, Stands};
+ghost use Rattle.writing.specs.Writes.{Room, Areas};
+ghost use Rattle.passes.specs.Passes.{stepOf, StepAnswer, NameAnswer, RuleReady, RuleAnswer, Holds, TableFits, PassAnswer};
+use rows::wide;
+use writing::Place;
+use writing::Wrote;
+
+// The subtree of row `root` by a step, packed at p.
+pub fn walk(
+    step: u32,
+    kind: u32,
+    rows: &[u32],
+    text: &[u8],
+    root: usize,
+    out: &mut [u32],
+    lits: &mut [u8],
+    p: Place,
+) -> Wrote
+    requires { ⌜ Inside (now rows) (length (now text)) ⌝ }
+    requires { ⌜ Stands (now rows) root ⌝ }
+    requires { ⌜ Room p (now out) (now lits) ⌝ }
+    ensures { λ a. ⌜ ((given t : Table Bytes) (r : Expr Span) → At (now (rows .entry)) root r → StepAnswer a p (stepOf step given t kind (resolve (now (text .entry)) r)) (now (out .entry)) (now (out .exit)) (now (lits .entry)) (now (lits .exit))) ⌝ }
+{
+    writing::copy(rows, text, root, out, lits, p)
+}
+
+// Writes n bytes of a text at p.
+fn put_bytes(text: &[u8], x: usize, n: usize, lits: &mut [u8], p: Place) -> Wrote
+    requires { ⌜ (x + n ≤ length (now text)) × (p .text ≤ length (now lits)) ⌝ }
+    ensures { λ a. ⌜ NameAnswer a p (bytesAt (now (text .entry)) (x, n)) (now (lits .entry)) (now (lits .exit)) ⌝ }
+{
+    let from = p.text;
+    if lits.len() - from < n {
+        return Wrote::Full;
+    }
+    writing::copy_bytes(text, x, n, lits, from);
+    Wrote::Done(Place {
+        rows: p.rows,
+        text: from + n,
+    })
+}
+
+// Writes a rule's name, of n bytes, at p.
+fn put_name(text: &[u8], x: u32, n: u32, lits: &mut [u8], p: Place) -> Wrote
+    requires { ⌜ (x + n ≤ length (now text)) × (p .text ≤ length (now lits)) ⌝ }
+    ensures { λ a. ⌜ NameAnswer a p (bytesAt (now (text .entry)) (x, n)) (now (lits .entry)) (now (lits .exit)) ⌝ }
+{
+    put_bytes(text, wide(x), wide(n), lits, p)
+}
+
+// Rule i, whose root is row `root`: its name, its expression by the step, its four words.
+pub fn one_rule(
+    step: u32,
+    rules: &[u32],
+    rows: &[u32],
+    text: &[u8],
+    i: usize,
+    root: usize,
+    heads: &mut [u32],
+    out: &mut [u32],
+    lits: &mut [u8],
+    p: Place,
+) -> Wrote
+    requires { ⌜ Inside (now rows) (length (now text)) ⌝ }
+    requires { ⌜ Stands (now rows) root ⌝ }
+    requires { ⌜ Room p (now out) (now lits) ⌝ }
+    requires { ⌜ RuleReady (now rules) i (length (now text)) (now heads) ⌝ }
+    ensures { λ a. ⌜ ((given t : Table Bytes) (r : Expr Span) → At (now (rows .entry)) root r → RuleAnswer a p i (getD (now (rules .entry)) (i * 4 + 2) 0) (bytesAt (now (text .entry)) (getD (now (rules .entry)) (i * 4) 0, getD (now (rules .entry)) (i * 4 + 1) 0)) (stepOf step given t (getD (now (rules .entry)) (i * 4 + 2) 0) (resolve (now (text .entry)) r)) (now (heads .entry)) (now (heads .exit)) (now (out .entry)) (now (out .exit)) (now (lits .entry)) (now (lits .exit))) ⌝ }
+{
+    let at = i * 4;
+    let x = rules[at];
+    let n = rules[at + 1];
+    let kind = rules[at + 2];
+    let Wrote::Done(q) = put_name(text, x, n, lits, p) else {
+        return Wrote::Full;
+    };
+    let Wrote::Done(s) = walk(step, kind, rows, text, root, out, lits, q) else {
+        return Wrote::Full;
+    };
+    let size = s.rows - p.rows;
+    writing::set_row(heads, i, p.text as u32, n, kind, size as u32);
+    Wrote::Done(s)
+}

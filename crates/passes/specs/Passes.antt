@@ -1,0 +1,88 @@
+-- A step by its number, and what a pass over the rules of a table leaves in three areas. Assumes nothing.
+use mathlib.Core.Path.{_≡_}
+use mathlib.Core.Bool.{Bool, true, false, cond}
+use mathlib.Core.List.{List, _++_}
+use Prim.Native.Nat.{ℕ, _+_, _*_, _/_, _^_, _≤_, _<_}
+use lib.ListN.{length, take, getD}
+use lib.Dec.{eqb}
+use Rattle.grammar.specs.Basic.{Bytes}
+use Rattle.grammar.specs.Tree.{Expr, E, size}
+use Rattle.grammar.specs.Rows.{Span, row, flat}
+use Rattle.grammar.specs.Text.{bytesAt, resolve, textOf, packed}
+use Rattle.grammar.specs.Table.{Table, Words, rowCount, ruleWords, rowWords, tableText, resolveTable, wordsOf}
+use Rattle.grammar.specs.Steps.{each, rotate, skipTo, unroll, concatenate, factor, list, restore}
+use Rattle.rows.specs.Rows.{At, Inside}
+use Rattle.writing.specs.Writes.{Fits, Areas, stored}
+use Rattle.writing.specs.Keeps.{Kept}
+use Rattle.writing.specs.declared.Place.{Place}
+use Rattle.writing.specs.declared.Wrote.{Wrote}
+use Rattle.writing.specs.declared.Wrote.the-variants.{Done, Full}
+
+-- steps 1 to 7. Skip reads its lists in the table as given; restore looks into the table that it is put on
+unfoldable pub stepOf : ℕ → (given t : Table Bytes) → ℕ → E → E
+stepOf n given t type e = e
+
+-- the answer of a step, whether it can grow or not
+abbrev pub StepAnswer : Wrote → Place → E → List ℕ → List ℕ → List ℕ → List ℕ → Type 0
+StepAnswer (Done q) p e o o′ t t′ = Kept q p e o o′ t t′
+StepAnswer Full p e o o′ t t′ = Fits p e o t → ⊥
+
+-- a name's bytes s at p
+pub record NamePut (q p : Place) (s t t′ : List ℕ) : Type 0 where
+  pub fits : p .text + length s ≤ length t
+  pub rows : q .rows ≡ p .rows
+  pub text : q .text ≡ p .text + length s
+  pub bytes : t′ ≡ stored t (p .text) s
+
+abbrev pub NameAnswer : Wrote → Place → (s t t′ : List ℕ) → Type 0
+NameAnswer (Done q) p s t t′ = NamePut q p s t t′
+NameAnswer Full p s t t′ = p .text + length s ≤ length t → ⊥
+
+-- rule i of the words rs has its name in a text of n bytes, and there is room for its words in os
+pub record RuleReady (rs : List ℕ) (i n : ℕ) (os : List ℕ) : Type 0 where
+  pub there : i < length rs / 4
+  pub name : getD rs (i * 4) 0 + getD rs (i * 4 + 1) 0 ≤ n
+  pub room : i < length os / 4
+
+-- a rule's name s and its tree e fit at p
+pub record RuleFits (p : Place) (s : Bytes) (e : E) (o t : List ℕ) : Type 0 where
+  pub rows : p .rows + size e ≤ length o / 4
+  pub text : p .text + length (s ++ textOf e) ≤ length t
+
+-- the rule's name and its packed tree stand from p to q, and its words at rule i; past that the areas of rows and text hold anything
+pub record RuleKept (q p : Place) (i y : ℕ) (s : Bytes) (e : E) (os os′ o o′ t t′ : List ℕ) : Type 0 where
+  pub rows : q .rows ≡ p .rows + size e
+  pub text : q .text ≡ p .text + length (s ++ textOf e)
+  pub heads : os′ ≡ stored os (i * 4) (row (p .text, length s, y) (size e))
+  pub words : take (q .rows * 4) o′ ≡ take (p .rows * 4) o ++ flat (packed (p .text + length s) e)
+  pub bytes : take (q .text) t′ ≡ take (p .text) t ++ (s ++ textOf e)
+
+abbrev pub RuleAnswer : Wrote → Place → (i y : ℕ) → Bytes → E → (os os′ o o′ t t′ : List ℕ) → Type 0
+RuleAnswer (Done q) p i y s e os os′ o o′ t t′ = RuleKept q p i y s e os os′ o o′ t t′
+RuleAnswer Full p i y s e os os′ o o′ t t′ = RuleFits p s e o t → ⊥
+
+-- a table stands in lent words and text
+pub record Holds (t : Table Span) (rs ws : List ℕ) (text : Bytes) : Type 0 where
+  pub rules : ruleWords t ≡ rs
+  pub rows : rowWords t ≡ ws
+  pub inside : Inside ws (length text)
+  pub names : (i : ℕ) → i < length rs / 4 → getD rs (i * 4) 0 + getD rs (i * 4 + 1) 0 ≤ length text
+
+-- a table of trees over bytes fits three areas
+pub record TableFits (t : Table Bytes) (os o s : List ℕ) : Type 0 where
+  pub rules : length t * 4 ≤ length os
+  pub rows : rowCount t ≤ length o / 4
+  pub text : length (tableText t) ≤ length s
+
+-- the packed table t stands at the front of three areas, up to q
+pub record Front (q : Place) (t : Table Bytes) (os o s : List ℕ) : Type 0 where
+  pub rows : q .rows ≡ rowCount t
+  pub text : q .text ≡ length (tableText t)
+  pub rule-words : take (length t * 4) os ≡ wordsOf t .rules
+  pub row-words : take (q .rows * 4) o ≡ wordsOf t .rows
+  pub bytes : take (q .text) s ≡ tableText t
+
+-- the answer of a pass: the new table stands in front, or does not fit
+abbrev pub PassAnswer : Wrote → Table Bytes → (os o s os′ o′ s′ : List ℕ) → Type 0
+PassAnswer (Done q) t os o s os′ o′ s′ = Front q t os′ o′ s′
+PassAnswer Full t os o s os′ o′ s′ = TableFits t os o s → ⊥
