@@ -10,7 +10,7 @@ ghost use Rattle.grammar.specs.Table.{Table, resolveTable};
 ghost use Rattle.grammar.specs.Steps.{each};
 ghost use Rattle.rows.specs.Rows.{Inside, At, Stands};
 ghost use Rattle.writing.specs.Writes.{Room, Areas};
-ghost use Rattle.passes.specs.Passes.{stepOf, StepAnswer, NameAnswer, RuleReady, RuleAnswer, Holds, TableFits, PassAnswer};
+ghost use Rattle.passes.specs.Passes.{stepOf, StepAnswer, NameAnswer, RuleReady, RuleAnswer, Holds, Held, TableFits, PassAnswer};
 use rows::wide;
 use writing::Place;
 use writing::Wrote;
@@ -90,4 +90,35 @@ pub fn one_rule(
     let size = s.rows - p.rows;
     writing::set_row(heads, i, p.text as u32, n, kind, size as u32);
     Wrote::Done(s)
+}
+
+// A step on every rule of the lent table: the new table packed in front of the three areas, or Full where it does not fit.
+pub fn pass(
+    step: u32,
+    rules: &[u32],
+    rows: &[u32],
+    text: &[u8],
+    heads: &mut [u32],
+    out: &mut [u32],
+    lits: &mut [u8],
+) -> Wrote
+    requires { ⌜ Held (now rules) (now rows) (now text) ⌝ }
+    requires { ⌜ length (now rules) ≤ length (now heads) ⌝ }
+    requires { ⌜ Areas (now out) (now lits) ⌝ }
+    ensures { λ a. ⌜ ((given : Table Bytes) (ts : Table Span) → Holds ts (now (rules .entry)) (now (rows .entry)) (now (text .entry)) → PassAnswer a (each (stepOf step given (resolveTable (now (text .entry)) ts)) (resolveTable (now (text .entry)) ts)) (now (heads .entry)) (now (out .entry)) (now (lits .entry)) (now (heads .exit)) (now (out .exit)) (now (lits .exit))) ⌝ }
+{
+    let count = rules.len() / 4;
+    let mut p = Place { rows: 0, text: 0 };
+    let mut end: usize = 0;
+    let mut i: usize = 0;
+    while i < count {
+        end += wide(rules[i * 4 + 3]);
+        let Wrote::Done(q) = one_rule(step, rules, rows, text, i, end - 1, heads, out, lits, p)
+        else {
+            return Wrote::Full;
+        };
+        p = q;
+        i += 1;
+    }
+    Wrote::Done(p)
 }
