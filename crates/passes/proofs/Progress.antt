@@ -43,7 +43,7 @@ start F ts text p os o s a b =
       front = record { rows = a; text = b; rule-words = refl; row-words = ap (λ (n : ℕ). take (n * 4) o) a; bytes = ap (λ (n : ℕ). take n s) b };
     }
 
-rows-length : (t : Table Span) → length (rowWords t) ≡ rowCount t * 4
+pub rows-length : (t : Table Span) → length (rowWords t) ≡ rowCount t * 4
 rows-length [] = refl
 rows-length (r ∷ t) = simp length-append (omega (arith, length-flat (r .body), rows-length t))
 

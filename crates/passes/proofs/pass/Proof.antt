@@ -1,3 +1,11 @@
+use borrow.Author.Needs.{needs}
+use mathlib.Core.Path.{_≡_, refl, sym, _∙_}
+use Prim.Native.Nat.{_+_, _-_, _/_, _<_, _≤_}
+use native.Mathlib.Omega.{arith}
+use native.Mathlib.Numerals.{add-one}
+use lib.ListN.{length}
+use Rattle.grammar.proofs.TopDown.{size-pos}
+use Rattle.passes.proofs.Loops.{Loop, loop-start, here, ready, loop-next, loop-full, loop-done}
 use Rattle.passes.proofs.pass.Statement.{statement}
 use Rattle.passes.proofs.pass.Tie as tie
 use Rattle.passes.proofs.pass.Reads as reads
@@ -6,98 +14,127 @@ use Rattle.passes.proofs.one_rule.Reads as one-rule-reads
 use Rattle.rows.proofs.wide.Reads as wide-reads
 
 abbrev Inv-loop : tie.InvT-loop
-Inv-loop step rules rows text heads₀ out₀ lits₀ count p₀ end₀ i₀ heads out lits p end i = ?
+Inv-loop step rules rows text heads₀ out₀ lits₀ count p₀ end₀ i₀ heads out lits p end i = (count ≡ length rules / 4) × Loop step rules rows text heads₀ out₀ lits₀ heads out lits p end i
 
 abbrev μ-loop : tie.MeasureT-loop
-μ-loop step rules rows text heads₀ out₀ lits₀ count p₀ end₀ i₀ heads out lits p end i = ?
+μ-loop step rules rows text heads₀ out₀ lits₀ count p₀ end₀ i₀ heads out lits p end i = count - i
 
 -- src/lib.rt:114:5
 loop-holds : tie.Need-loop-holds Inv-loop μ-loop
-loop-holds c = ?
+loop-holds c = (refl, loop-start _ _ _ _ _ _ _ _ refl refl (c .before .before .before .before .before .before .pre .1 .1))
 
 -- src/lib.rt:115:27
 mul-wide : tie.Need-mul-wide Inv-loop μ-loop
-mul-wide c = ?
+mul-wide c = omega arith
 
 -- src/lib.rt:115:27
 add-wide : tie.Need-add-wide Inv-loop μ-loop
-add-wide c = ?
+add-wide c = omega arith
 
 -- src/lib.rt:115:21
 mul-wide-2 : tie.Need-mul-wide-2 Inv-loop μ-loop
-mul-wide-2 c = ?
+mul-wide-2 c = omega arith
 
 -- src/lib.rt:115:21
 shared-slice-read-wide : tie.Need-shared-slice-read-wide Inv-loop μ-loop
-shared-slice-read-wide c = ?
+shared-slice-read-wide c = omega arith
 
 -- src/lib.rt:115:16
 wide-requires : tie.Need-wide-requires Inv-loop μ-loop
-wide-requires c κs = ?
+wide-requires c κs = search needs
 
 -- src/lib.rt:115:9
 add-end : tie.Need-add-end Inv-loop μ-loop
-add-end c = ?
+add-end c =
+    let s = c .before .before .before .before .before .before .before .before .before .before in
+    let l = c .before .before .before .loop .inv .1 in
+    let m : c .before .before .before .loop .i < length (s .args .rules .now) / 4 = omega arith in
+    let h = here l m (s .pre .0 .table) (s .pre .0 .holds) in
+    omega (arith, h .bound, h .next .count, c .wide .ensures)
 
 -- src/lib.rt:116:67
 sub-one-rule : tie.Need-sub-one-rule Inv-loop μ-loop
-sub-one-rule c = ?
+sub-one-rule c =
+    let s = c .before .before .before .before .before .before .before .before .before .before in
+    let l = c .before .before .before .loop .inv .1 in
+    let m : c .before .before .before .loop .i < length (s .args .rules .now) / 4 = omega arith in
+    let h = here l m (s .pre .0 .table) (s .pre .0 .holds) in
+    omega (arith, h .next .count, size-pos (h .rule .body), c .wide .ensures)
 
 -- src/lib.rt:116:30
 one-rule-requires : tie.Need-one-rule-requires Inv-loop μ-loop
-one-rule-requires c κs = ?
+one-rule-requires c κs =
+    let s = c .before .before .before .before .before .before .before .before .before .before .before .before .before in
+    let l = c .before .before .before .before .before .before .loop .inv .1 in
+    let m : c .before .before .before .before .before .before .loop .i < length (s .args .rules .now) / 4 = omega arith in
+    let h = here l m (s .pre .0 .table) (s .pre .0 .holds) in
+    (s .pre .0 .holds .inside, (record { tree = h .rule .body; at = h .next .at _ (omega (arith, h .next .count, size-pos (h .rule .body), c .before .before .before .wide .ensures)) }, (l .room, ready l m (s .pre .0 .table) (s .pre .0 .holds) (s .pre .1 .0))))
 
 -- src/lib.rt:116:25
 enum-known-q : tie.Need-enum-known-q Inv-loop μ-loop
-enum-known-q c = ?
+enum-known-q c = search needs
 
 -- src/lib.rt:118:13
 enum-told : tie.Need-enum-told Inv-loop μ-loop
-enum-told c = ?
+enum-told c = search needs
 
 -- src/lib.rt:118:13
 same-length : tie.Need-same-length Inv-loop μ-loop
-same-length c = ?
+same-length c = search needs
 
 -- src/lib.rt:118:13
 same-length-2 : tie.Need-same-length-2 Inv-loop μ-loop
-same-length-2 c = ?
+same-length-2 c = search needs
 
 -- src/lib.rt:118:13
 same-length-3 : tie.Need-same-length-3 Inv-loop μ-loop
-same-length-3 c = ?
+same-length-3 c = search needs
 
 -- src/lib.rt:118:13
 returns : tie.Need-returns Inv-loop μ-loop
-returns c = ?
+returns c =
+    let s = c .before .before .before .before .before .before .before .before .before .before .before .before .before .before .before .before .before .before .before .before .before .before in
+    let l = c .before .before .before .before .before .before .before .before .before .before .before .before .before .before .before .loop .inv .1 in
+    let m : c .before .before .before .before .before .before .before .before .before .before .before .before .before .before .before .loop .i < length (s .args .rules .now) / 4 = omega arith in
+    let h = here l m (s .pre .0 .table) (s .pre .0 .holds) in
+    λ given ts x. loop-full l m {end′ = c .before .before .before .before .before .before .before .before .before .before .before .before .before .before .before .loop .end + c .before .before .before .before .before .before .before .before .before .before .before .before .wide .result} _ _ _ (c .enum-told .given .1) (omega (arith, c .before .before .before .before .before .before .before .before .before .before .before .before .wide .ensures)) (omega (arith, h .next .count, size-pos (h .rule .body), c .before .before .before .before .before .before .before .before .before .before .before .before .wide .ensures)) (c .before .before .before .before .before .before .before .before .one-rule .ensures) given ts x
 
 -- src/lib.rt:121:9
 add-i : tie.Need-add-i Inv-loop μ-loop
-add-i c = ?
+add-i c = omega arith
 
 -- src/lib.rt:114:5
 loop-less : tie.Need-loop-less Inv-loop μ-loop
-loop-less c = ?
+loop-less c = omega arith
 
 -- src/lib.rt:114:5
 loop-again : tie.Need-loop-again Inv-loop μ-loop
-loop-again c = ?
+loop-again c =
+    let s = c .before .before .before .before .before .before .before .before .before .before .before .before .before .before .before .before .before .before .before .before .before .before .before in
+    let l = c .before .before .before .before .before .before .before .before .before .before .before .before .before .before .before .before .loop .inv .1 in
+    let m : c .before .before .before .before .before .before .before .before .before .before .before .before .before .before .before .before .loop .i < length (s .args .rules .now) / 4 = omega arith in
+    let h = here l m (s .pre .0 .table) (s .pre .0 .holds) in
+    (c .before .before .before .before .before .before .before .before .before .before .before .before .before .before .before .before .loop .inv .0, loop-next l m _ _ _ (c .before .q .given .1) (s .pre .0) (s .pre .1 .0) (c .before .before .before .before .before .before .before .before .before .one-rule .kept .1 .1 .1 .1 .1 .1 .0) (c .before .before .before .before .before .before .before .before .before .one-rule .kept .1 .1 .1 .1 .1 .1 .1 .0) (c .before .before .before .before .before .before .before .before .before .one-rule .kept .1 .1 .1 .1 .1 .1 .1 .1 .0) (omega (arith, c .before .before .before .before .before .before .before .before .before .before .before .before .before .wide .ensures)) (omega (arith, h .next .count, size-pos (h .rule .body), c .before .before .before .before .before .before .before .before .before .before .before .before .before .wide .ensures)) (c .before .before .before .before .before .before .before .before .before .one-rule .ensures))
 
 -- src/lib.rt:96:1
 same-length-4 : tie.Need-same-length-4 Inv-loop μ-loop
-same-length-4 c = ?
+same-length-4 c = search needs
 
 -- src/lib.rt:96:1
 same-length-5 : tie.Need-same-length-5 Inv-loop μ-loop
-same-length-5 c = ?
+same-length-5 c = search needs
 
 -- src/lib.rt:96:1
 same-length-6 : tie.Need-same-length-6 Inv-loop μ-loop
-same-length-6 c = ?
+same-length-6 c = search needs
 
 -- src/lib.rt:96:1
 returns-2 : tie.Need-returns-2 Inv-loop μ-loop
-returns-2 c = ?
+returns-2 c =
+    let s = c .before .before .before .before .before .before .before .before in
+    let l = c .before .loop .inv .1 in
+    let m : length (s .args .rules .now) / 4 ≤ c .before .loop .i = omega arith in
+    λ given ts x. loop-done l m given ts x
 
 pub pass-spec : {M : Type 1} → statement M
 pass-spec =
