@@ -9,9 +9,9 @@ use borrow.Author.Tests.{eqb-true, eqb-false}
 use lib.Dec.{eqb}
 use lib.ListN.{length, getD, length-append, length-map}
 use lib.Seq.{ext-getD}
-use Rattle.grammar.specs.Basic.{Bytes}
+use Rattle.grammar.specs.Basic.{Bytes, holds, bytes-discrete, sameBytes}
 use Rattle.grammar.specs.Tree as tree
-use Rattle.grammar.specs.Tree.{Head, Str, Insens, Ident, Fixed, Range, PeekSlice, PeekFrom, Un, PosPred, NegPred, Opt, Rep, RepOnce, Push, RestoreOnErr, RepExact, RepMin, RepMax, RepMinMax, Bin, Seq, Choice, Expr, lit, fixed, skip, un, bin, E, litKind, fixedHead, unHead, binKind, size}
+use Rattle.grammar.specs.Tree.{Head, Str, Insens, Ident, Fixed, Range, PeekSlice, PeekFrom, Un, PosPred, NegPred, Opt, Rep, RepOnce, Push, RestoreOnErr, RepExact, RepMin, RepMax, RepMinMax, Bin, Seq, Choice, Expr, lit, fixed, skip, un, bin, E, litKind, fixedHead, unHead, binKind, size, same-discrete, same}
 use Rattle.grammar.specs.Rows.{Span, strRows, flat}
 use Rattle.grammar.specs.Text.{bytesAt, resolve}
 use Rattle.rows.specs.declared.Shape.{Shape}
@@ -320,6 +320,21 @@ tells-eqb x y = go (eqb x y) refl
     go : (b : Bool) → eqb x y ≡ b → Tells b (x ≡ y)
     go true e = eqb-true x y e
     go false e = eqb-false x y e
+
+-- a bool that tells is the value of the test
+tells-holds : {A : Type 0} (b : Bool) (d : Dec A) → Tells b A → holds d ≡ b
+tells-holds true (yes p) h = refl
+tells-holds true (no n) h = absurd (n h)
+tells-holds false (yes p) h = absurd (h p)
+tells-holds false (no n) h = refl
+
+pub tells-same : (b : Bool) (x y : E) → Tells b (x ≡ y) → same x y ≡ b
+unfolding same
+tells-same b x y h = tells-holds b (same-discrete x y) h
+
+pub tells-bytes : (b : Bool) (x y : Bytes) → Tells b (x ≡ y) → sameBytes x y ≡ b
+unfolding sameBytes
+tells-bytes b x y h = tells-holds b (bytes-discrete x y) h
 
 -- two roots that were read, of one size n, and a bool that tells whether their rows agree
 pub trees-tell : (t u : Bytes) {w v : List ℕ} {i j : ℕ} {r s : Expr Span} (a : At w i r) (b : At v j s) (n : ℕ) (y : Bool) → n ≡ size r → n ≡ size s

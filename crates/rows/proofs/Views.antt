@@ -1,23 +1,21 @@
 -- What a row that was read at a tree's root says of the tree: by the shape of its kind, by its kind, and by the views of trees. Assumes nothing.
-use mathlib.Core.Path.{_≡_, refl, sym, ap, subst, _∙_}
-use mathlib.Core.Bool.{Bool, true, false}
+use mathlib.Core.Path.{_≡_, refl, sym, ap, _∙_}
 use mathlib.Core.List.{List, [], _∷_}
 use mathlib.Core.Option.{none, some}
-use Prim.Native.Nat.{ℕ, _+_, _-_, _≤_, _<_}
+use Prim.Native.Nat.{ℕ, _+_, _-_, _≤_}
 use native.Mathlib.Omega.{arith}
-use borrow.Author.Tests.{eq-eqb, ne-eqb, ltb-true, ltb-false}
-use lib.Dec.{ltb}
+use borrow.Author.Tests.{eq-eqb, ne-eqb}
 use lib.ListN.{length}
 use Rattle.grammar.specs.Basic.{Bytes}
 use Rattle.grammar.specs.Tree as tree
-use Rattle.grammar.specs.Tree.{Str, Fixed, Un, Bin, Expr, lit, fixed, skip, un, bin, litKind, fixedHead, unHead, binKind, size, litAt, unAt, binAt}
+use Rattle.grammar.specs.Tree.{Fixed, Un, Bin, Expr, lit, fixed, skip, un, bin, litKind, fixedHead, unHead, binKind, size, litAt, unAt, binAt}
 use Rattle.grammar.specs.Rows.{Span}
 use Rattle.grammar.specs.Text.{bytesAt, resolve}
 use Rattle.rows.specs.declared.Shape.{Shape}
 use Rattle.rows.specs.declared.Shape.the-variants.{Lit, Num, One, Two, Skips}
-use Rattle.rows.specs.Rows.{At, AtStrs, shapeOf, LitInside, Inside, AllWithin, Within}
+use Rattle.rows.specs.Rows.{At, AtStrs, shapeOf}
 use Rattle.rows.proofs.Laws.{headOf, root, Found, root-found, found-size, at-un, at-left, at-right, at-strs, at-first, at-others, size-pos}
-use Rattle.rows.proofs.Cells.{in-text, lit-shape, fixed-shape, un-shape, bin-shape, skip-shape, lit-same, fixed-same, un-same, bin-same}
+use Rattle.rows.proofs.Cells.{lit-shape, fixed-shape, un-shape, bin-shape, skip-shape, lit-same, fixed-same, un-same, bin-same}
 
 -- ---- by shape: the row k, x, y, n was read at the root of r, at row i of w
 
@@ -48,9 +46,8 @@ pub record TwoView (w : List ℕ) (i k x y n : ℕ) (r : Expr Span) : Type 0 whe
   pub left : Expr Span
   pub right : Expr Span
   pub is : r ≡ bin op left right
+  pub head : _≡_ {A = tree.Head} (k, x, y) (binKind op, 0, 0)
   pub kind : k ≡ binKind op
-  pub noX : x ≡ 0
-  pub noY : y ≡ 0
   pub rows : n ≡ size left + size right + 1
   pub leastLeft : 1 ≤ size left
   pub leastRight : 1 ≤ size right
@@ -61,9 +58,9 @@ pub record TwoView (w : List ℕ) (i k x y n : ℕ) (r : Expr Span) : Type 0 whe
 pub record SkipView (w : List ℕ) (i k x y n : ℕ) (r : Expr Span) : Type 0 where
   pub strings : List Span
   pub is : r ≡ skip strings
+  pub head : _≡_ {A = tree.Head} (k, x, y) (17, length strings, 0)
   pub kind : k ≡ 17
   pub count : x ≡ length strings
-  pub noY : y ≡ 0
   pub rows : n ≡ length strings + 1
   pub most : length strings ≤ i
   pub at : AtStrs w (i - length strings) strings
@@ -118,16 +115,45 @@ module _ {w : List ℕ} {i k x y n : ℕ} where
   as-two {r = un op c} f a h = let e : One ≡ Two = found-shape f a h in let z : _≡_ {A = ℕ} 0 1 = cc in absurd (omega arith)
   as-two {r = bin op l c} f a h =
       let t = root a in
-      record { op = op; left = l; right = c; is = refl; kind = sym (f .kind) ∙ t .kind; noX = sym (f .x) ∙ t .x; noY = sym (f .y) ∙ t .y; rows = found-size f a; leastLeft = size-pos l; leastRight = size-pos c; most = omega (arith, t .most); atLeft = at-left a; atRight = at-right a }
+      record {
+        op = op;
+        left = l;
+        right = c;
+        is = refl;
+        head = found-head f a;
+        kind = sym (f .kind) ∙ t .kind;
+        rows = found-size f a;
+        leastLeft = size-pos l;
+        leastRight = size-pos c;
+        most = omega (arith, t .most);
+        atLeft = at-left a;
+        atRight = at-right a;
+      }
 
   pub as-skip : {r : Expr Span} → Found w i k x y n → At w i r → shapeOf k ≡ Skips → SkipView w i k x y n r
   as-skip {r = lit op s} f a h = let e : Lit ≡ Skips = found-shape f a h in let z : _≡_ {A = ℕ} 0 1 = cc in absurd (omega arith)
   as-skip {r = fixed op} f a h = let e : Num ≡ Skips = found-shape f a h in let z : _≡_ {A = ℕ} 0 1 = cc in absurd (omega arith)
   as-skip {r = skip ss} f a h =
       let t = root a in
-      record { strings = ss; is = refl; kind = sym (f .kind) ∙ t .kind; count = sym (f .x) ∙ t .x; noY = sym (f .y) ∙ t .y; rows = found-size f a; most = omega (arith, t .most); at = at-strs a }
+      record {
+        strings = ss;
+        is = refl;
+        head = found-head f a;
+        kind = sym (f .kind) ∙ t .kind;
+        count = sym (f .x) ∙ t .x;
+        rows = found-size f a;
+        most = omega (arith, t .most);
+        at = at-strs a;
+      }
   as-skip {r = un op c} f a h = let e : One ≡ Skips = found-shape f a h in let z : _≡_ {A = ℕ} 0 1 = cc in absurd (omega arith)
   as-skip {r = bin op l c} f a h = let e : Two ≡ Skips = found-shape f a h in let z : _≡_ {A = ℕ} 0 1 = cc in absurd (omega arith)
+
+-- the left child's root by the size word of the right one, and a Skip's strings by its count
+pub left-at : {w : List ℕ} {i k x y n : ℕ} {r : Expr Span} (v : TwoView w i k x y n r) (m : ℕ) → m ≡ size (v .right) → At w (i - 1 - m) (v .left)
+left-at v m e = rw e (v .atLeft)
+
+pub strs-at : {w : List ℕ} {i k x y n : ℕ} {r : Expr Span} (v : SkipView w i k x y n r) → AtStrs w (i - x) (v .strings)
+strs-at v = rw (v .count) (v .at)
 
 -- ---- by kind: the tag of the tree is the one that has the row's words
 
@@ -146,18 +172,18 @@ module _ {k x y n : ℕ} {r : Expr Span} where
 
 -- ---- by the views of trees, with the literals' bytes: what litAt, unAt and binAt find
 
-module _ (t : Bytes) {k x y n : ℕ} {r : Expr Span} where
-  pub lit-some : LitView k x y n r → litAt k (resolve t r) ≡ some (bytesAt t (x, y))
-  lit-some v = rw (v .is) (rw (eq-eqb _ _ (sym (v .kind))))
+module _ (t : Bytes) (j : ℕ) {k x y n : ℕ} {r : Expr Span} where
+  pub lit-some : k ≡ j → LitView k x y n r → litAt j (resolve t r) ≡ some (bytesAt t (x, y))
+  lit-some h v = rw (v .is) (rw (eq-eqb _ _ (sym (v .kind) ∙ h)))
 
-  pub one-some : {w : List ℕ} {i : ℕ} (v : OneView w i k x y n r) → unAt k (resolve t r) ≡ some (resolve t (v .child))
-  one-some v = rw (v .is) (rw (eq-eqb _ _ (sym (ap (λ (h : tree.Head). h .0) (v .head)))))
+  pub one-some : {w : List ℕ} {i : ℕ} → k ≡ j → (v : OneView w i k x y n r) → unAt j (resolve t r) ≡ some (resolve t (v .child))
+  one-some h v = rw (v .is) (rw (eq-eqb _ _ (sym (ap (λ (h : tree.Head). h .0) (v .head)) ∙ h)))
 
-  pub two-some : {w : List ℕ} {i : ℕ} (v : TwoView w i k x y n r) → binAt k (resolve t r) ≡ some (resolve t (v .left), resolve t (v .right))
-  two-some v = rw (v .is) (rw (eq-eqb _ _ (sym (v .kind))))
+  pub two-some : {w : List ℕ} {i : ℕ} → k ≡ j → (v : TwoView w i k x y n r) → binAt j (resolve t r) ≡ some (resolve t (v .left), resolve t (v .right))
+  two-some h v = rw (v .is) (rw (eq-eqb _ _ (sym (v .kind) ∙ h)))
 
 -- none of them finds anything at a root of another kind
-module _ (t : Bytes) {w : List ℕ} {i k x y n : ℕ} (j : ℕ) where
+module _ (t : Bytes) (j : ℕ) {w : List ℕ} {i k x y n : ℕ} where
   pub lit-none : {r : Expr Span} → Found w i k x y n → At w i r → (k ≡ j → ⊥) → litAt j (resolve t r) ≡ none
   lit-none {r = lit op s} f a h = let e : litKind op ≡ k = sym (root a .kind) ∙ f .kind in rw (ne-eqb (litKind op) j (λ q. h (sym e ∙ q)))
   lit-none {r = fixed op} f a h = refl
@@ -212,74 +238,3 @@ at-unique (bin op l c) s a b =
     let z : l ≡ v .left = at-unique l (v .left) (rw q at (at-left a)) (v .atLeft) in
     let e : s ≡ bin op (v .left) (v .right) = two-is op v refl in
     cc
-
--- ---- a tree's literals lie in the text
-
--- of a table whose literals all do
-strs-within : (n : ℕ) {w : List ℕ} {j : ℕ} (ss : List Span) → Inside w n → AtStrs w j ss → AllWithin n ss
-strs-within n [] ins a = tt
-strs-within n (s ∷ ss) ins a = (in-text n ins (root-found (at-first a)) (lit-shape Str), strs-within n ss ins (at-others a))
-
-pub inside-within : (n : ℕ) {w : List ℕ} {i : ℕ} (r : Expr Span) → Inside w n → At w i r → Within n r
-inside-within n (lit k s) ins a = in-text n ins (root-found a) (lit-shape k)
-inside-within n (fixed f) ins a = tt
-inside-within n (skip ss) ins a = strs-within n ss ins (at-strs a)
-inside-within n (un u e) ins a = inside-within n e ins (at-un a)
-inside-within n (bin b l r) ins a = (inside-within n l ins (at-left a), inside-within n r ins (at-right a))
-
--- and so do those of its rows
-lit-there : (n : ℕ) {w : List ℕ} {i : ℕ} (k : tree.Lit) (s : Span) → At w i (lit k s) → s .0 + s .1 ≤ n → LitInside w n i
-lit-there n k s a v = λ _. rw (root a .x, root a .y) v
-
-other-there : (n : ℕ) {w : List ℕ} {i : ℕ} (r : Expr Span) → At w i r → (shapeIn r ≡ Lit → ⊥) → LitInside w n i
-other-there n r a h = λ s. absurd (h (sym (shape-in r) ∙ ap shapeOf (sym (root a .kind)) ∙ s))
-
-num-lit : Num ≡ Lit → ⊥
-num-lit e = let z : _≡_ {A = ℕ} 0 1 = cc in omega arith
-
-one-lit : One ≡ Lit → ⊥
-one-lit e = let z : _≡_ {A = ℕ} 0 1 = cc in omega arith
-
-two-lit : Two ≡ Lit → ⊥
-two-lit e = let z : _≡_ {A = ℕ} 0 1 = cc in omega arith
-
-skips-lit : Skips ≡ Lit → ⊥
-skips-lit e = let z : _≡_ {A = ℕ} 0 1 = cc in omega arith
-
--- a row below m, or not
-below-or : {A : Type 0} (k m : ℕ) → (k < m → A) → (m ≤ k → A) → A
-below-or {A} k m f g = go (ltb k m) refl
-  where
-    go : (b : Bool) → ltb k m ≡ b → A
-    go true e = f (ltb-true k m e)
-    go false e = g (ltb-false k m e)
-
-strs-rows : (n : ℕ) {w : List ℕ} {j : ℕ} (ss : List Span) → AtStrs w j ss → AllWithin n ss → (k : ℕ) → j ≤ k → k < j + length ss → LitInside w n k
-strs-rows n [] a v k lo hi = absurd (omega arith)
-strs-rows n {w} {j} (s ∷ ss) a v k lo hi =
-    below-or k (j + 1)
-    (λ l. let e : j ≡ k = omega arith in subst (λ (m : ℕ). LitInside w n m) e (lit-there n Str s (at-first a) (v .0)))
-    (λ l. strs-rows n ss (at-others a) (v .1) k l (omega arith))
-
-pub within-rows : (n : ℕ) {w : List ℕ} {i : ℕ} (r : Expr Span) → At w i r → Within n r → (j k : ℕ) → i + 1 ≡ j + size r → j ≤ k → k ≤ i → LitInside w n k
-within-rows n {w} {i} (lit c s) a v j k h lo hi = let e : i ≡ k = omega arith in subst (λ (m : ℕ). LitInside w n m) e (lit-there n c s a v)
-within-rows n {w} {i} (fixed f) a v j k h lo hi = let e : i ≡ k = omega arith in subst (λ (m : ℕ). LitInside w n m) e (other-there n (fixed f) a num-lit)
-within-rows n {w} {i} (skip ss) a v j k h lo hi =
-    below-or k i
-    (λ l. strs-rows n ss (at-strs a) v k (omega arith) (omega arith))
-    (λ l. let e : i ≡ k = omega arith in subst (λ (m : ℕ). LitInside w n m) e (other-there n (skip ss) a skips-lit))
-within-rows n {w} {i} (un u c) a v j k h lo hi =
-    below-or k i
-    (λ l. within-rows n c (at-un a) v j k (omega (arith, size-pos c)) lo (omega arith))
-    (λ l. let e : i ≡ k = omega arith in subst (λ (m : ℕ). LitInside w n m) e (other-there n (un u c) a one-lit))
-within-rows n {w} {i} (bin b l r) a v j k h lo hi =
-    below-or k (j + size l)
-    (λ d. within-rows n l (at-left a) (v .0) j k (omega (arith, size-pos l)) lo (omega arith))
-    (λ d. below-or k i
-    (λ f. within-rows n r (at-right a) (v .1) (j + size l) k (omega (arith, size-pos r)) d (omega arith))
-    (λ f. let e : i ≡ k = omega arith in subst (λ (m : ℕ). LitInside w n m) e (other-there n (bin b l r) a two-lit)))
-
-pub within-run : (m n : ℕ) {w : List ℕ} {i : ℕ} {r : Expr Span} → At w i r → Within m r → n ≡ size r → (k : ℕ) → k < n → LitInside w m (i + 1 - n + k)
-within-run m n {w} {i} {r} a v e k l =
-    let t = root a in
-    within-rows m r a v (i + 1 - n) (i + 1 - n + k) (omega arith) (omega arith) (omega arith)

@@ -7,19 +7,19 @@ use native.Mathlib.Omega.{arith}
 use lib.ListN.{length, take, drop, length-append, length-take, take-append-drop}
 use lib.Seq.{length-take-le, take-append-seam, drop-append-seam}
 use Rattle.grammar.specs.Basic.{Bytes}
-use Rattle.grammar.specs.Tree.{Un, Bin, Expr, E, lit, fixed, skip, un, bin, unHead, binKind, size}
+use Rattle.grammar.specs.Tree.{Head, Un, Bin, Expr, E, lit, fixed, skip, un, bin, unHead, binKind, size}
 use Rattle.grammar.specs.Rows.{Span, row, flat}
 use Rattle.grammar.specs.Text.{bytesAt, resolve, joined, textOf, spans, packed}
 use Rattle.rows.specs.Rows.{At, AllWithin, Within, StandsIn}
 use Rattle.rows.proofs.Laws.{size-pos}
-use Rattle.rows.proofs.Views.{at-unique}
+use Rattle.rows.proofs.Views.{OneView, TwoView, left-at, at-unique}
 use Rattle.writing.specs.declared.Place.{Place}
 use Rattle.writing.specs.declared.Wrote.{Wrote}
 use Rattle.writing.specs.declared.Wrote.the-variants.{Done, Full}
 use Rattle.writing.specs.Writes.{stored, Areas, Room, RowPut, Fits, Written, Answer}
 use Rattle.writing.specs.Keeps.{Kept, KeptAnswer, Ready}
 use Rattle.writing.proofs.Runs.{take-stored, take-front}
-use Rattle.writing.proofs.Trees.{size-packed, length-packed}
+use Rattle.writing.proofs.Trees.{size-packed, length-packed, fits-un, fits-left}
 
 -- ---- room
 
@@ -53,6 +53,14 @@ kept-done p e o o′ t t′ h w = subst (λ (z : Wrote). KeptAnswer z p e o o′
 pub kept-full : {a : Wrote} (p : Place) (e : E) (o o′ t t′ : List ℕ) → a ≡ Full → KeptAnswer a p e o o′ t t′ → ⊥
 kept-full p e o o′ t t′ h w = subst (λ (z : Wrote). KeptAnswer z p e o o′ t t′) h w
 
+-- the children of a tree that was read, and fits, stand ready
+module _ (s : Bytes) {w : List ℕ} {i k x y n : ℕ} {r : Expr Span} {p : Place} {o t : List ℕ} where
+  pub ready-child : OneView w i k x y n r → Fits p (resolve s r) o t → Ready w s (i - 1) p o t
+  ready-child v f = record { tree = v .child; at = v .at; fits = fits-un (rw (v .is) at f) }
+
+  pub ready-left : (v : TwoView w i k x y n r) (m : ℕ) → m ≡ size (v .right) → Fits p (resolve s r) o t → Ready w s (i - 1 - m) p o t
+  ready-left v m e f = record { tree = v .left; at = left-at v m e; fits = fits-left (rw (v .is) at f) }
+
 -- where a tree e′ that is no larger than e stands, there is room for the root row over e, and for what comes beside e
 module _ {q p : Place} {e′ : E} {o o₁ t t₁ : List ℕ} (w : Kept q p e′ o o₁ t t₁) (e : E) (s : size e′ ≤ size e) (lo : length o₁ ≡ length o) where
   pub row-room : {u : Un} → Fits p (un u e) o t → q .rows < length o₁ / 4
@@ -64,24 +72,33 @@ module _ {q p : Place} {e′ : E} {o o₁ t t₁ : List ℕ} (w : Kept q p e′ 
     text = omega (arith, w .text, f .text, length-append (textOf e) (textOf r));
   }
 
+pub ready-right : (s : Bytes) {w : List ℕ} {i k x y n : ℕ} {r : Expr Span} {q p : Place} {l′ : E} {o o₁ t t₁ : List ℕ} (v : TwoView w i k x y n r)
+    → Kept q p l′ o o₁ t t₁ → size l′ ≤ size (resolve s (v .left)) → length (textOf l′) ≤ length (textOf (resolve s (v .left)))
+    → length o₁ ≡ length o → length t₁ ≡ length t → Fits p (resolve s r) o t → Ready w s (i - 1) q o₁ t₁
+ready-right s v c h k lo lt f = record {
+  tree = v .right;
+  at = v .atRight;
+  fits = right-fits c (resolve s (v .left)) h lo k lt (rw (v .is) at f);
+}
+
 -- ---- a tree is kept by its children and then its root's row
 
 module _ {q p : Place} {e : E} {o o₁ t t₁ : List ℕ} (w : Kept q p e o o₁ t t₁) where
-  pub kept-un : {a : Place} (u : Un) (n : ℕ) {o₂ : List ℕ} → n ≡ size e + 1 → RowPut a q (unHead u) n o₁ o₂ → Kept a p (un u e) o o₂ t t₁
-  kept-un {a} u n {o₂} h r = record {
+  pub kept-un : {a : Place} (u : Un) (g : Head) (n : ℕ) {o₂ : List ℕ} → g ≡ unHead u → n ≡ size e + 1 → RowPut a q g n o₁ o₂ → Kept a p (un u e) o o₂ t t₁
+  kept-un {a} u g n {o₂} d h r = record {
     rows = omega (arith, w .rows, r .rows);
     text = r .text ∙ w .text;
-    words = rw (r .words) (take-stored o₁ _ (q .rows * 4) (a .rows * 4) (omega (arith, r .rows)) (omega (arith, r .rows, r .room)) ∙ rw (w .words, h, size-packed (p .text) e) (simp append-assoc));
+    words = rw (r .words) (take-stored o₁ _ (q .rows * 4) (a .rows * 4) (omega (arith, r .rows)) (omega (arith, r .rows, r .room)) ∙ rw (w .words, d, h, size-packed (p .text) e) (simp append-assoc));
     bytes = rw (r .text) (w .bytes);
   }
 
-  pub kept-bin : {a s : Place} {f : E} {o₂ t₂ : List ℕ} → Kept s q f o₁ o₂ t₁ t₂ → (b : Bin) (n : ℕ) {o₃ : List ℕ} → n ≡ size e + size f + 1 → RowPut a s (binKind b, 0, 0) n o₂ o₃ → Kept a p (bin b e f) o o₃ t t₂
-  kept-bin {a} {s} {f} {o₂} {t₂} v b n {o₃} h r =
+  pub kept-bin : {a s : Place} {f : E} {o₂ t₂ : List ℕ} → Kept s q f o₁ o₂ t₁ t₂ → (b : Bin) (g : Head) (n : ℕ) {o₃ : List ℕ} → g ≡ (binKind b, 0, 0) → n ≡ size e + size f + 1 → RowPut a s g n o₂ o₃ → Kept a p (bin b e f) o o₃ t t₂
+  kept-bin {a} {s} {f} {o₂} {t₂} v b g n {o₃} d h r =
       let l = length-append (textOf e) (textOf f) in
       record {
         rows = omega (arith, w .rows, v .rows, r .rows);
         text = r .text ∙ omega (arith, w .text, v .text, l);
-        words = rw (r .words) (take-stored o₂ _ (s .rows * 4) (a .rows * 4) (omega (arith, r .rows)) (omega (arith, r .rows, r .room)) ∙ rw (v .words, w .words, h, w .text, size-packed (p .text) e, size-packed (p .text + length (textOf e)) f) (simp append-assoc));
+        words = rw (r .words) (take-stored o₂ _ (s .rows * 4) (a .rows * 4) (omega (arith, r .rows)) (omega (arith, r .rows, r .room)) ∙ rw (v .words, w .words, d, h, w .text, size-packed (p .text) e, size-packed (p .text + length (textOf e)) f) (simp append-assoc));
         bytes = rw (r .text) (v .bytes ∙ rw (w .bytes) (simp append-assoc));
       }
 

@@ -6,7 +6,7 @@ use native.Mathlib.Nat.{add-zero}
 use native.Mathlib.Omega.{arith}
 use lib.ListN.{length, length-append}
 use Rattle.grammar.specs.Basic.{Bytes}
-use Rattle.grammar.specs.Tree.{Lit, Fixed, Un, Bin, E, lit, fixed, skip, un, bin, litKind, fixedHead, unHead, binKind, size}
+use Rattle.grammar.specs.Tree.{Head, Lit, Fixed, Un, Bin, E, lit, fixed, skip, un, bin, litKind, fixedHead, unHead, binKind, size}
 use Rattle.grammar.specs.Rows.{row, strRows, flat}
 use Rattle.grammar.specs.Text.{joined, textOf, spans, packed}
 use Rattle.rows.proofs.Laws.{length-flat, length-strRows}
@@ -74,8 +74,8 @@ module _ {q p : Place} {e : E} {o o′ t t′ : List ℕ} (w : Written q p e o o
 pub lit-tree : (a : Wrote) (p : Place) (k : Lit) (s o o′ t t′ : List ℕ) → LitAnswer a p (litKind k) s o o′ t t′ → Answer a p (lit k s) o o′ t t′
 lit-tree a p k s o o′ t t′ h = put-answer a p (lit k s) o o′ t t′ h
 
-pub fixed-tree : (a : Wrote) (p : Place) (f : Fixed) (o o′ t : List ℕ) → p .text ≤ length t → RowAnswer a p (fixedHead f) 1 o o′ → Answer a p (fixed f) o o′ t t
-fixed-tree a p f o o′ t l h = put-answer a p (fixed f) o o′ t t (put-row a p (fixedHead f) 1 o o′ t l h)
+pub fixed-tree : (a : Wrote) (p : Place) (f : Fixed) (g : Head) (o o′ t : List ℕ) → g ≡ fixedHead f → p .text ≤ length t → RowAnswer a p g 1 o o′ → Answer a p (fixed f) o o′ t t
+fixed-tree a p f g o o′ t e l h = put-answer a p (fixed f) o o′ t t (put-row a p (fixedHead f) 1 o o′ t l (subst (λ (g : Head). RowAnswer a p g 1 o o′) e h))
 
 -- ---- a node with one child
 
@@ -83,10 +83,10 @@ module _ {q p : Place} {e : E} {o o₁ t t₁ : List ℕ} (w : Written q p e o o
   after : q .text ≤ length t₁
   after = omega (arith, w .text, w .fits .text, written-lits w)
 
-  pub un-tree : (a : Wrote) (u : Un) (n : ℕ) (o₂ : List ℕ) → n ≡ size e + 1 → RowAnswer a q (unHead u) n o₁ o₂ → Answer a p (un u e) o o₂ t t₁
-  un-tree a u n o₂ h r =
-      let v : PutAnswer a p (size e + 1) (flat (packed (p .text) e) ++ row (unHead u) n) (textOf e ++ []) o o₂ t t₁ = put-then (written-put w) (length-packed (p .text) e) a 1 (row (unHead u) n) [] o₂ t₁ (put-row a q (unHead u) n o₁ o₂ t₁ after r) in
-      put-answer a p (un u e) o o₂ t t₁ (rw (size-packed (p .text) e) (rw (append-nil, h) at v))
+  pub un-tree : (a : Wrote) (u : Un) (g : Head) (n : ℕ) (o₂ : List ℕ) → g ≡ unHead u → n ≡ size e + 1 → RowAnswer a q g n o₁ o₂ → Answer a p (un u e) o o₂ t t₁
+  un-tree a u g n o₂ d h r =
+      let v : PutAnswer a p (size e + 1) (flat (packed (p .text) e) ++ row g n) (textOf e ++ []) o o₂ t t₁ = put-then (written-put w) (length-packed (p .text) e) a 1 (row g n) [] o₂ t₁ (put-row a q g n o₁ o₂ t₁ after r) in
+      put-answer a p (un u e) o o₂ t t₁ (rw (size-packed (p .text) e) (rw (append-nil, d, h) at v))
 
   -- ---- a node with two children
 
@@ -94,15 +94,21 @@ module _ {q p : Place} {e : E} {o o₁ t t₁ : List ℕ} (w : Written q p e o o
     both : Put s p (size e + size f) (flat (packed (p .text) e) ++ flat (packed (q .text) f)) (textOf e ++ textOf f) o o₂ t t₂
     both = put-then (written-put w) (length-packed (p .text) e) (Done s) (size f) _ (textOf f) o₂ t₂ (written-put v)
 
-    pub bin-tree : (a : Wrote) (b : Bin) (n : ℕ) (o₃ : List ℕ) → n ≡ size e + size f + 1 → RowAnswer a s (binKind b, 0, 0) n o₂ o₃ → Answer a p (bin b e f) o o₃ t t₂
-    bin-tree a b n o₃ h r =
+    pub bin-tree : (a : Wrote) (b : Bin) (g : Head) (n : ℕ) (o₃ : List ℕ) → g ≡ (binKind b, 0, 0) → n ≡ size e + size f + 1 → RowAnswer a s g n o₂ o₃ → Answer a p (bin b e f) o o₃ t t₂
+    bin-tree a b g n o₃ d h r =
         let x = p .text in
         let l : length (flat (packed x e) ++ flat (packed (q .text) f)) ≡ (size e + size f) * 4 = simp length-append (omega (arith, length-packed x e, length-packed (q .text) f)) in
         let z : s .text ≤ length t₂ = omega (arith, v .text, v .fits .text, written-lits v) in
-        let y : PutAnswer a p (size e + size f + 1) ((flat (packed x e) ++ flat (packed (q .text) f)) ++ row (binKind b, 0, 0) n) ((textOf e ++ textOf f) ++ []) o o₃ t t₂ = put-then both l a 1 (row (binKind b, 0, 0) n) [] o₃ t₂ (put-row a s (binKind b, 0, 0) n o₂ o₃ t₂ z r) in
-        put-answer a p (bin b e f) o o₃ t t₂ (rw (size-packed x e, size-packed (x + length (textOf e)) f) (rw (append-nil, append-assoc, h, w .text) at y))
+        let y : PutAnswer a p (size e + size f + 1) ((flat (packed x e) ++ flat (packed (q .text) f)) ++ row g n) ((textOf e ++ textOf f) ++ []) o o₃ t t₂ = put-then both l a 1 (row g n) [] o₃ t₂ (put-row a s g n o₂ o₃ t₂ z r) in
+        put-answer a p (bin b e f) o o₃ t t₂ (rw (size-packed x e, size-packed (x + length (textOf e)) f) (rw (append-nil, append-assoc, d, h, w .text) at y))
 
--- ---- what does not fit does not fit in a larger tree
+-- ---- what fits: a smaller tree, in areas as long, and the parts of a tree
+
+pub fits-less : {p : Place} {e : E} (e′ : E) {o t : List ℕ} → size e′ ≤ size e → length (textOf e′) ≤ length (textOf e) → Fits p e o t → Fits p e′ o t
+fits-less e′ h k f = record { rows = omega (arith, f .rows); text = omega (arith, f .text) }
+
+pub fits-areas : {p : Place} {e : E} {o t : List ℕ} (o′ t′ : List ℕ) → length o′ ≡ length o → length t′ ≡ length t → Fits p e o t → Fits p e o′ t′
+fits-areas o′ t′ h k f = record { rows = omega (arith, f .rows); text = omega (arith, f .text) }
 
 pub fits-un : {p : Place} {u : Un} {e : E} {o t : List ℕ} → Fits p (un u e) o t → Fits p e o t
 fits-un f = record { rows = omega (arith, f .rows); text = f .text }
@@ -140,11 +146,11 @@ module _ {q p : Place} (ss : List Bytes) {o o₁ t t₁ : List ℕ} (w : Put q p
       let y : PutAnswer a p (length ss + length ts) (strRows (spans (p .text) ss) ++ strRows (spans (q .text) ts)) (joined ss ++ joined ts) o o₂ t t₂ = put-then w (length-packed-strs (p .text) ss) a (length ts) _ (joined ts) o₂ t₂ h in
       rw (length-append ss ts, spans-append (p .text) ss ts, joined-append ss ts) (rw (w .text) at y)
 
-  pub skip-tree : (a : Wrote) (n : ℕ) (o₂ : List ℕ) → n ≡ length ss + 1 → RowAnswer a q (17, length ss, 0) n o₁ o₂ → Answer a p (skip ss) o o₂ t t₁
-  skip-tree a n o₂ h r =
+  pub skip-tree : (a : Wrote) (g : Head) (n : ℕ) (o₂ : List ℕ) → g ≡ (17, length ss, 0) → n ≡ length ss + 1 → RowAnswer a q g n o₁ o₂ → Answer a p (skip ss) o o₂ t t₁
+  skip-tree a g n o₂ d h r =
       let z : q .text ≤ length t₁ = omega (arith, w .text, w .fits .text, put-lits w) in
-      let y : PutAnswer a p (length ss + 1) (strRows (spans (p .text) ss) ++ row (17, length ss, 0) n) (joined ss ++ []) o o₂ t t₁ = put-then w (length-packed-strs (p .text) ss) a 1 (row (17, length ss, 0) n) [] o₂ t₁ (put-row a q (17, length ss, 0) n o₁ o₂ t₁ z r) in
-      put-answer a p (skip ss) o o₂ t t₁ (rw (length-spans (p .text) ss) (rw (append-nil, h) at y))
+      let y : PutAnswer a p (length ss + 1) (strRows (spans (p .text) ss) ++ row g n) (joined ss ++ []) o o₂ t t₁ = put-then w (length-packed-strs (p .text) ss) a 1 (row g n) [] o₂ t₁ (put-row a q g n o₁ o₂ t₁ z r) in
+      put-answer a p (skip ss) o o₂ t t₁ (rw (length-spans (p .text) ss) (rw (append-nil, d, h) at y))
 
 pub fits-strs : {p : Place} {ss : List Bytes} {o t : List ℕ} → Fits p (skip ss) o t → Fit p (length ss) (length (joined ss)) o t
 fits-strs f = record { rows = omega (arith, f .rows); text = f .text }

@@ -4,7 +4,7 @@ use native.Mathlib.Omega.{arith}
 use lib.ListN.{length}
 use Rattle.rows.proofs.Laws.{Found, row-found, root, root-there, found-size}
 use Rattle.rows.proofs.Cells.{trees-size, trees-tell}
-use Rattle.rows.proofs.Views.{within-run}
+use Rattle.rows.proofs.Insides.{within-run}
 use borrow.Author.Needs.{needs}
 use Rattle.rows.proofs.same_tree.Statement.{statement}
 use Rattle.rows.proofs.same_tree.Tie as tie

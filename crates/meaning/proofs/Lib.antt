@@ -1,0 +1,19 @@
+-- Laws of outcomes, each step's law, the theorem of demand 3, and the examples.
+pub mod Asks
+pub mod Matcher
+pub mod Same
+pub mod Lift
+pub mod Views
+pub mod Rotate
+pub mod Skip
+pub mod Unroll
+pub mod Concatenate
+pub mod Factor
+pub mod Listing
+pub mod Restore
+pub mod Counts
+pub mod Accepted
+pub mod Returned
+pub mod Theorem
+pub mod Counterexamples
+pub mod Examples
