@@ -9,7 +9,7 @@ use Rattle.rows.proofs.Laws.{length-flat}
 use Rattle.grammar.specs.Basic.{Bytes}
 use Rattle.grammar.specs.Tree.{E, size}
 use Rattle.grammar.specs.Rows.{row, flat}
-use Rattle.grammar.specs.Text.{textOf, packed, bytesAt}
+use Rattle.grammar.specs.Text.{textOf, packed, bytesAt, resolve}
 use Rattle.writing.specs.Writes.{Fits, Room, Answer, stored}
 use Rattle.writing.specs.Keeps.{Kept, KeptAnswer}
 use Rattle.writing.specs.declared.Place.{Place}
@@ -17,7 +17,7 @@ use Rattle.writing.specs.declared.Wrote.{Wrote}
 use Rattle.writing.specs.declared.Wrote.the-variants.{Done, Full}
 use Rattle.writing.proofs.Keeps.{written-kept}
 use Rattle.writing.proofs.Runs.{take-stored, length-stored}
-use Rattle.passes.specs.Passes.{StepAnswer, NamePut, NameAnswer, RuleFits, RuleKept}
+use Rattle.passes.specs.Passes.{StepAnswer, Prepared, NamePut, NameAnswer, RuleFits, RulePrepared, RuleKept}
 
 -- of a step that can grow
 pub answer-step : (a : Wrote) (p : Place) (e : E) (o o′ t t′ : List ℕ) → Answer a p e o o′ t t′ → StepAnswer a p e o o′ t t′
@@ -74,3 +74,10 @@ kept-within {q} {p} {e} {o} {o′} h k =
     let a : length (take (q .rows * 4) o′) ≡ length (take (p .rows * 4) o) + size e * 4 =
     ap length (k .words) ∙ length-append (take (p .rows * 4) o) (flat (packed (p .text) e)) ∙ ap (λ (n : ℕ). length (take (p .rows * 4) o) + n) (length-flat (packed (p .text) e) ∙ ap (λ (n : ℕ). n * 4) (packed-size (p .text) e)) in
     omega (arith, a, k .rows, length-take (q .rows * 4) o′, length-take (p .rows * 4) o)
+
+-- what is asked of the rule is asked of its tree, after its name
+pub prepared : {q p : Place} {s t t′ : List ℕ} {step : ℕ} {rs₀ ws₀ ws : List ℕ} {text : Bytes} {root : ℕ} {o : List ℕ} → NamePut q p s t t′ → RulePrepared step rs₀ ws₀ ws text root p s o t → Prepared step ws text root q o t′
+prepared {q} {p} {s} {t} {t′} {step} {rs₀} {ws₀} {ws} {text} n r =
+    record
+    { fits = λ k x a. let f = r .fits k x a in record { rows = omega (arith, f .rows, n .rows); text = omega (arith, f .text, n .text, name-length n, length-append s (textOf (resolve text x))) }
+    ; counts = r .counts }

@@ -1,4 +1,5 @@
 pub mod Tables
 pub mod Answers
 pub mod Progress
+pub mod Growth
 pub mod Loops

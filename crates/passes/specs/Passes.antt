@@ -1,16 +1,17 @@
 -- A step by its number, and what a pass over the rules of a table leaves in three areas. Assumes nothing.
 use mathlib.Core.Path.{_≡_}
-use mathlib.Core.Bool.{Bool, true, false, cond}
+use mathlib.Core.Bool.{Bool, true, false, _||_, cond}
 use mathlib.Core.List.{List, _++_}
 use Prim.Native.Nat.{ℕ, _+_, _*_, _/_, _^_, _≤_, _<_}
 use lib.ListN.{length, take, getD}
 use lib.Dec.{eqb}
 use Rattle.grammar.specs.Basic.{Bytes}
-use Rattle.grammar.specs.Tree.{Expr, E, size}
+use Rattle.grammar.specs.Tree.{Expr, E, size, anyNode}
 use Rattle.grammar.specs.Rows.{Span, row, flat}
 use Rattle.grammar.specs.Text.{bytesAt, resolve, textOf, packed}
 use Rattle.grammar.specs.Table.{Table, Words, rowCount, ruleWords, rowWords, tableText, resolveTable, wordsOf}
 use Rattle.grammar.specs.Steps.{each, rotate, skipTo, unroll, concatenate, factor, list, restore}
+use Rattle.grammar.specs.Refusals.{zeroCount, zeroCounts}
 use Rattle.rows.specs.Rows.{At, Inside}
 use Rattle.writing.specs.Writes.{Fits, Areas, stored}
 use Rattle.writing.specs.Keeps.{Kept}
@@ -18,14 +19,28 @@ use Rattle.writing.specs.declared.Place.{Place}
 use Rattle.writing.specs.declared.Wrote.{Wrote}
 use Rattle.writing.specs.declared.Wrote.the-variants.{Done, Full}
 
--- steps 1 to 7. Skip reads its lists in the table as given; restore looks into the table that it is put on
-unfoldable pub stepOf : ℕ → (given t : Table Bytes) → ℕ → E → E
-stepOf n given t type e = e
+-- steps 1 to 7. Skip reads its lists in the table as given, restore looks into the table that it is put on: that is `look`
+unfoldable pub stepOf : ℕ → (look : Table Bytes) → ℕ → E → E
+stepOf n look type e = e
+
+-- skip, unroll and restore can grow
+abbrev pub grows : ℕ → Bool
+grows n = eqb n 2 || (eqb n 3 || eqb n 7)
 
 -- the answer of a step, whether it can grow or not
 abbrev pub StepAnswer : Wrote → Place → E → List ℕ → List ℕ → List ℕ → List ℕ → Type 0
 StepAnswer (Done q) p e o o′ t t′ = Kept q p e o o′ t t′
 StepAnswer Full p e o o′ t t′ = Fits p e o t → ⊥
+
+-- the table's words stand lent
+pub record Lent (t : Table Span) (rs ws : List ℕ) : Type 0 where
+  pub rules : ruleWords t ≡ rs
+  pub rows : rowWords t ≡ ws
+
+-- what a step asks besides the tree that it reads: one that cannot grow, that the tree fits; unroll, that no count is 0
+pub record Prepared (step : ℕ) (ws : List ℕ) (text : Bytes) (root : ℕ) (p : Place) (o t : List ℕ) : Type 0 where
+  pub fits : grows step ≡ false → (r : Expr Span) → At ws root r → Fits p (resolve text r) o t
+  pub counts : step ≡ 3 → (r : Expr Span) → At ws root r → anyNode zeroCount r ≡ false
 
 -- a name's bytes s at p
 pub record NamePut (q p : Place) (s t t′ : List ℕ) : Type 0 where
@@ -48,6 +63,13 @@ pub record RuleReady (rs : List ℕ) (i n : ℕ) (os : List ℕ) : Type 0 where
 pub record RuleFits (p : Place) (s : Bytes) (e : E) (o t : List ℕ) : Type 0 where
   pub rows : p .rows + size e ≤ length o / 4
   pub text : p .text + length (s ++ textOf e) ≤ length t
+
+-- what a step asks of a rule with the name s
+pub record RulePrepared (step : ℕ) (rs₀ ws₀ ws : List ℕ) (text : Bytes) (root : ℕ) (p : Place) (s : Bytes) (o t : List ℕ) : Type 0 where
+  pub table : Table Span
+  pub lent : Lent table rs₀ ws₀
+  pub fits : grows step ≡ false → (r : Expr Span) → At ws root r → RuleFits p s (resolve text r) o t
+  pub counts : step ≡ 3 → (r : Expr Span) → At ws root r → anyNode zeroCount r ≡ false
 
 -- the rule's name and its packed tree stand from p to q, and its words at rule i; past that the areas of rows and text hold anything
 pub record RuleKept (q p : Place) (i y : ℕ) (s : Bytes) (e : E) (os os′ o o′ t t′ : List ℕ) : Type 0 where
@@ -78,6 +100,13 @@ pub record TableFits (t : Table Bytes) (os o s : List ℕ) : Type 0 where
   pub rules : length t * 4 ≤ length os
   pub rows : rowCount t ≤ length o / 4
   pub text : length (tableText t) ≤ length s
+
+-- what a step asks of a table
+pub record TablePrepared (step : ℕ) (rs₀ ws₀ rs ws : List ℕ) (text : Bytes) (os o s : List ℕ) : Type 0 where
+  pub table : Table Span
+  pub lent : Lent table rs₀ ws₀
+  pub fits : grows step ≡ false → (t : Table Span) → Holds t rs ws text → TableFits (resolveTable text t) os o s
+  pub counts : step ≡ 3 → (t : Table Span) → Holds t rs ws text → zeroCounts t ≡ false
 
 -- the packed table t stands at the front of three areas, up to q
 pub record Front (q : Place) (t : Table Bytes) (os o s : List ℕ) : Type 0 where

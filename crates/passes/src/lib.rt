@@ -10,7 +10,7 @@ ghost use Rattle.grammar.specs.Table.{Table, resolveTable};
 ghost use Rattle.grammar.specs.Steps.{each};
 ghost use Rattle.rows.specs.Rows.{Inside, At, Stands};
 ghost use Rattle.writing.specs.Writes.{Room, Areas};
-ghost use Rattle.passes.specs.Passes.{stepOf, StepAnswer, NameAnswer, RuleReady, RuleAnswer, Holds, Held, TableFits, PassAnswer};
+ghost use Rattle.passes.specs.Passes.{stepOf, StepAnswer, Lent, Prepared, NameAnswer, RuleReady, RulePrepared, RuleAnswer, Holds, Held, TablePrepared, TableFits, PassAnswer};
 use rows::wide;
 use writing::Place;
 use writing::Wrote;
@@ -19,6 +19,10 @@ use writing::Wrote;
 pub fn walk(
     step: u32,
     kind: u32,
+    heads0: &[u32],
+    rows0: &[u32],
+    text0: &[u8],
+    marks: &[u32],
     rows: &[u32],
     text: &[u8],
     root: usize,
@@ -29,7 +33,8 @@ pub fn walk(
     requires { ⌜ Inside (now rows) (length (now text)) ⌝ }
     requires { ⌜ Stands (now rows) root ⌝ }
     requires { ⌜ Room p (now out) (now lits) ⌝ }
-    ensures { λ a. ⌜ ((given t : Table Bytes) (r : Expr Span) → At (now (rows .entry)) root r → StepAnswer a p (stepOf step given t kind (resolve (now (text .entry)) r)) (now (out .entry)) (now (out .exit)) (now (lits .entry)) (now (lits .exit))) ⌝ }
+    requires { ⌜ Prepared step (now rows) (now text) root p (now out) (now lits) ⌝ }
+    ensures { λ a. ⌜ ((gs : Table Span) (r : Expr Span) → Lent gs (now (heads0 .entry)) (now (rows0 .entry)) → At (now (rows .entry)) root r → StepAnswer a p (stepOf step (resolveTable (now (text0 .entry)) gs) kind (resolve (now (text .entry)) r)) (now (out .entry)) (now (out .exit)) (now (lits .entry)) (now (lits .exit))) ⌝ }
 {
     writing::copy(rows, text, root, out, lits, p)
 }
@@ -61,6 +66,10 @@ fn put_name(text: &[u8], x: u32, n: u32, lits: &mut [u8], p: Place) -> Wrote
 // Rule i, whose root is row `root`: its name, its expression by the step, its four words.
 pub fn one_rule(
     step: u32,
+    heads0: &[u32],
+    rows0: &[u32],
+    text0: &[u8],
+    marks: &[u32],
     rules: &[u32],
     rows: &[u32],
     text: &[u8],
@@ -75,7 +84,8 @@ pub fn one_rule(
     requires { ⌜ Stands (now rows) root ⌝ }
     requires { ⌜ Room p (now out) (now lits) ⌝ }
     requires { ⌜ RuleReady (now rules) i (length (now text)) (now heads) ⌝ }
-    ensures { λ a. ⌜ ((given t : Table Bytes) (r : Expr Span) → At (now (rows .entry)) root r → RuleAnswer a p i (getD (now (rules .entry)) (i * 4 + 2) 0) (bytesAt (now (text .entry)) (getD (now (rules .entry)) (i * 4) 0, getD (now (rules .entry)) (i * 4 + 1) 0)) (stepOf step given t (getD (now (rules .entry)) (i * 4 + 2) 0) (resolve (now (text .entry)) r)) (now (heads .entry)) (now (heads .exit)) (now (out .entry)) (now (out .exit)) (now (lits .entry)) (now (lits .exit))) ⌝ }
+    requires { ⌜ RulePrepared step (now heads0) (now rows0) (now rows) (now text) root p (bytesAt (now text) (getD (now rules) (i * 4) 0, getD (now rules) (i * 4 + 1) 0)) (now out) (now lits) ⌝ }
+    ensures { λ a. ⌜ ((gs : Table Span) (r : Expr Span) → Lent gs (now (heads0 .entry)) (now (rows0 .entry)) → At (now (rows .entry)) root r → RuleAnswer a p i (getD (now (rules .entry)) (i * 4 + 2) 0) (bytesAt (now (text .entry)) (getD (now (rules .entry)) (i * 4) 0, getD (now (rules .entry)) (i * 4 + 1) 0)) (stepOf step (resolveTable (now (text0 .entry)) gs) (getD (now (rules .entry)) (i * 4 + 2) 0) (resolve (now (text .entry)) r)) (now (heads .entry)) (now (heads .exit)) (now (out .entry)) (now (out .exit)) (now (lits .entry)) (now (lits .exit))) ⌝ }
 {
     let at = i * 4;
     let x = rules[at];
@@ -84,7 +94,20 @@ pub fn one_rule(
     let Wrote::Done(q) = put_name(text, x, n, lits, p) else {
         return Wrote::Full;
     };
-    let Wrote::Done(s) = walk(step, kind, rows, text, root, out, lits, q) else {
+    let Wrote::Done(s) = walk(
+        step,
+        kind,
+        heads0,
+        rows0,
+        text0,
+        marks,
+        rows,
+        text,
+        root,
+        out,
+        lits,
+        q,
+    ) else {
         return Wrote::Full;
     };
     let size = s.rows - p.rows;
@@ -95,6 +118,10 @@ pub fn one_rule(
 // A step on every rule of the lent table: the new table packed in front of the three areas, or Full where it does not fit.
 pub fn pass(
     step: u32,
+    heads0: &[u32],
+    rows0: &[u32],
+    text0: &[u8],
+    marks: &[u32],
     rules: &[u32],
     rows: &[u32],
     text: &[u8],
@@ -105,7 +132,8 @@ pub fn pass(
     requires { ⌜ Held (now rules) (now rows) (now text) ⌝ }
     requires { ⌜ length (now rules) ≤ length (now heads) ⌝ }
     requires { ⌜ Areas (now out) (now lits) ⌝ }
-    ensures { λ a. ⌜ ((given : Table Bytes) (ts : Table Span) → Holds ts (now (rules .entry)) (now (rows .entry)) (now (text .entry)) → PassAnswer a (each (stepOf step given (resolveTable (now (text .entry)) ts)) (resolveTable (now (text .entry)) ts)) (now (heads .entry)) (now (out .entry)) (now (lits .entry)) (now (heads .exit)) (now (out .exit)) (now (lits .exit))) ⌝ }
+    requires { ⌜ TablePrepared step (now heads0) (now rows0) (now rules) (now rows) (now text) (now heads) (now out) (now lits) ⌝ }
+    ensures { λ a. ⌜ ((gs ts : Table Span) → Lent gs (now (heads0 .entry)) (now (rows0 .entry)) → Holds ts (now (rules .entry)) (now (rows .entry)) (now (text .entry)) → PassAnswer a (each (stepOf step (resolveTable (now (text0 .entry)) gs)) (resolveTable (now (text .entry)) ts)) (now (heads .entry)) (now (out .entry)) (now (lits .entry)) (now (heads .exit)) (now (out .exit)) (now (lits .exit))) ⌝ }
 {
     let count = rules.len() / 4;
     let mut p = Place { rows: 0, text: 0 };
@@ -113,8 +141,22 @@ pub fn pass(
     let mut i: usize = 0;
     while i < count {
         end += wide(rules[i * 4 + 3]);
-        let Wrote::Done(q) = one_rule(step, rules, rows, text, i, end - 1, heads, out, lits, p)
-        else {
+        let Wrote::Done(q) = one_rule(
+            step,
+            heads0,
+            rows0,
+            text0,
+            marks,
+            rules,
+            rows,
+            text,
+            i,
+            end - 1,
+            heads,
+            out,
+            lits,
+            p,
+        ) else {
             return Wrote::Full;
         };
         p = q;

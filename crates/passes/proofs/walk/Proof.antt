@@ -22,7 +22,7 @@ same-length-2 c = search needs
 -- src/lib.rt:19:1
 returns : tie.Need-returns
 unfolding stepOf
-returns c = λ given t r a. answer-step (c .before .before .before .before .copy .result) _ _ _ _ _ _ (c .before .before .before .before .copy .ensures r a)
+returns c = λ gs r g a. answer-step (c .before .before .before .before .copy .result) _ _ _ _ _ _ (c .before .before .before .before .copy .ensures r a)
 
 pub walk-spec : {M : Type 1} → statement M
 walk-spec = tie.close (tie.spec copy-requires same-length same-length-2 returns)

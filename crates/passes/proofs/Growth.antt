@@ -1,0 +1,64 @@
+-- Steps that cannot grow: what is left of the table that is read fits beside what is written. Assumes nothing.
+use mathlib.Core.Path.{_≡_, refl, sym, ap, ap₂, _∙_, subst}
+use mathlib.Core.Bool.{false≢true, Bool, true, false, _||_}
+use mathlib.Core.List.{List, [], _∷_, _++_}
+use Prim.Native.Nat.{ℕ, _+_, _*_, _/_, _≤_, _<_}
+use native.Mathlib.Omega.{arith}
+use lib.ListN.{length, length-append}
+use lib.Dec.{eqb}
+use Rattle.grammar.specs.Basic.{Bytes, any}
+use Rattle.grammar.specs.Tree.{E, Expr, size, anyNode}
+use Rattle.grammar.specs.Rows.{Span}
+use Rattle.grammar.specs.Text.{bytesAt, resolve, textOf}
+use Rattle.grammar.specs.Table.{Rule, Table, rowCount, ruleText, tableText, resolveRule, resolveTable}
+use Rattle.grammar.specs.Steps.{each, onRule}
+use Rattle.grammar.specs.Refusals.{zeroCount, zeroCounts}
+use Rattle.writing.specs.declared.Place.{Place}
+use Rattle.passes.specs.Passes.{stepOf, grows, RuleFits, TableFits}
+use Rattle.passes.proofs.Tables.{count-append, text-append, resolve-append}
+use Rattle.passes.proofs.Progress.{Progress}
+
+pub stepOf-less : (n : ℕ) → grows n ≡ false → (look : Table Bytes) (y : ℕ) (e : E) → size (stepOf n look y e) ≤ size e
+unfolding stepOf
+stepOf-less n k look y e = omega arith
+
+pub stepOf-text : (n : ℕ) → grows n ≡ false → (look : Table Bytes) (y : ℕ) (e : E) → length (textOf (stepOf n look y e)) ≤ length (textOf e)
+unfolding stepOf
+stepOf-text n k look y e = omega arith
+
+module _ (F : ℕ → E → E) (less : (y : ℕ) (e : E) → size (F y e) ≤ size e) (text-less : (y : ℕ) (e : E) → length (textOf (F y e)) ≤ length (textOf e)) where
+  pub each-rows : (t : Table Bytes) → rowCount (each F t) ≤ rowCount t
+  each-rows [] = omega arith
+  each-rows (r ∷ t) = omega (arith, less (r .type) (r .body), each-rows t)
+
+  pub each-text : (t : Table Bytes) → length (tableText (each F t)) ≤ length (tableText t)
+  each-text [] = omega arith
+  each-text (r ∷ t) = simp length-append (omega (arith, text-less (r .type) (r .body), each-text t))
+
+-- a rule of a table that fits, as it is read
+pub rule-fits-same : {F : ℕ → E → E} {ts : Table Span} {text : Bytes} {i end : ℕ} {p : Place} {os os′ o s : List ℕ} (g : Progress F ts text i end p os o s) (r : Rule Span) (rest : Table Span) → g .rest ≡ r ∷ rest → ((y : ℕ) (e : E) → size (F y e) ≤ size e) → ((y : ℕ) (e : E) → length (textOf (F y e)) ≤ length (textOf e)) → TableFits (resolveTable text ts) os′ o s → RuleFits p (bytesAt text (r .name)) (resolve text (r .body)) o s
+rule-fits-same {F} {ts} {text} {i} {end} {p} {os} {os′} {o} {s} g r rest w less text-less f =
+    let D : Table Bytes = resolveTable text (g .done) in
+    let R : Table Bytes = resolveTable text rest in
+    let x : Rule Bytes = resolveRule text r in
+    let split : resolveTable text ts ≡ D ++ (x ∷ R) = ap (resolveTable text) (g .whole ∙ ap (λ (z : Table Span). g .done ++ z) w) ∙ resolve-append text (g .done) (r ∷ rest) in
+    let a : rowCount (resolveTable text ts) ≡ rowCount D + (size (x .body) + rowCount R) = ap rowCount split ∙ count-append D (x ∷ R) in
+    let b : length (tableText (resolveTable text ts)) ≡ length (tableText D) + (length (ruleText x) + length (tableText R)) = ap (λ (t : Table Bytes). length (tableText t)) split ∙ ap length (text-append D (x ∷ R)) ∙ length-append (tableText D) (tableText (x ∷ R)) ∙ ap (λ (n : ℕ). length (tableText D) + n) (length-append (ruleText x) (tableText R)) in
+    record { rows = omega (arith, f .rows, a, g .front .rows, each-rows F less text-less D); text = omega (arith, f .text, b, g .front .text, each-text F less text-less D) }
+
+-- no rule of a table without zero counts has one
+or-no-left : (a b : Bool) → (a || b) ≡ false → a ≡ false
+or-no-left true b h = absurd (false≢true (sym h))
+or-no-left false b h = refl
+
+or-no-right : (a b : Bool) → (a || b) ≡ false → b ≡ false
+or-no-right true b h = absurd (false≢true (sym h))
+or-no-right false b h = h
+
+any-part : (p : Rule Span → Bool) (done : Table Span) (r : Rule Span) (rest : Table Span) → any p (done ++ (r ∷ rest)) ≡ false → p r ≡ false
+any-part p [] r rest h = or-no-left (p r) (any p rest) h
+any-part p (x ∷ done) r rest h = any-part p done r rest (or-no-right (p x) (any p (done ++ (r ∷ rest))) h)
+
+pub no-zero : (ts done : Table Span) (r : Rule Span) (rest : Table Span) → ts ≡ done ++ (r ∷ rest) → zeroCounts ts ≡ false → anyNode zeroCount (r .body) ≡ false
+unfolding zeroCounts
+no-zero ts done r rest w h = any-part (λ x. anyNode zeroCount (x .body)) done r rest (ap (any (λ x. anyNode zeroCount (x .body))) (sym w) ∙ h)
