@@ -78,6 +78,7 @@ kept-within {q} {p} {e} {o} {o′} h k =
 -- what is asked of the rule is asked of its tree, after its name
 pub prepared : {q p : Place} {s t t′ : List ℕ} {step : ℕ} {rs₀ ws₀ ws : List ℕ} {text : Bytes} {root : ℕ} {o : List ℕ} → NamePut q p s t t′ → RulePrepared step rs₀ ws₀ ws text root p s o t → Prepared step ws text root q o t′
 prepared {q} {p} {s} {t} {t′} {step} {rs₀} {ws₀} {ws} {text} n r =
-    record
-    { fits = λ k x a. let f = r .fits k x a in record { rows = omega (arith, f .rows, n .rows); text = omega (arith, f .text, n .text, name-length n, length-append s (textOf (resolve text x))) }
-    ; counts = r .counts }
+    record {
+      fits = λ k x a. let f = r .fits k x a in record { rows = omega (arith, f .rows, n .rows); text = omega (arith, f .text, n .text, name-length n, length-append s (textOf (resolve text x))) };
+      counts = r .counts;
+    }

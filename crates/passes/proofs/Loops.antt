@@ -21,7 +21,7 @@ use Rattle.writing.specs.Writes.{Areas, Room}
 use Rattle.writing.specs.declared.Place.{Place}
 use Rattle.writing.specs.declared.Wrote.{Wrote}
 use Rattle.writing.specs.declared.Wrote.the-variants.{Done, Full}
-use Rattle.passes.specs.Passes.{stepOf, grows, Lent, TablePrepared, RulePrepared, RuleReady, RuleFits, RuleKept, RuleAnswer, Holds, Held, TableFits, Front}
+use Rattle.passes.specs.Passes.{stepOf, grows, Lent, RulePrepared, RuleReady, RuleFits, RuleKept, RuleAnswer, Holds, Passing, TableFits, Front}
 use Rattle.passes.proofs.Tables.{count-append}
 use Rattle.passes.proofs.Progress.{Progress, Next, start, next-rule, the-next, progress-next, rule-fits, finished, rows-length}
 
@@ -64,22 +64,23 @@ module _ {step : ℕ} {rs₀ ws₀ : List ℕ} {text₀ : Bytes} {rs ws : List �
   ready ts h k = record { there = m; name = h .names i m; room = omega (arith, m, l .heads-same, k) }
 
   -- what the step asks of the rule
-  pub rule-prepared : Held rs ws text → TablePrepared step rs₀ ws₀ rs ws text os₀ o₀ s₀ → (root : ℕ) → root + 1 ≡ end + getD rs (i * 4 + 3) 0 → RulePrepared step rs₀ ws₀ ws text root p (bytesAt text (getD rs (i * 4) 0, getD rs (i * 4 + 1) 0)) o s
-  rule-prepared held q root e =
-      let ts = held .table in
-      let h = held .holds in
+  pub rule-prepared : Passing step rs₀ ws₀ rs ws text os₀ o₀ s₀ → (root : ℕ) → root + 1 ≡ end + getD rs (i * 4 + 3) 0 → RulePrepared step rs₀ ws₀ ws text root p (bytesAt text (getD rs (i * 4) 0, getD rs (i * 4 + 1) 0)) o s
+  rule-prepared q root e =
+      let ts = q .table in
+      let h = q .holds in
       let g = l .progress given ts lent h in
       let n = next-rule _ ts text i end p os o s rs (h .rules) m g in
       let x = the-next h g (n .0) (n .1) (n .2) in
       let at : At ws root (n .0 .body) = x .at root (omega (arith, e, x .count)) in
-      record
-      { table = given
-      ; lent = lent
-      ; fits = λ k r a.
-          subst (λ (c : ℕ × ℕ). RuleFits p (bytesAt text c) (resolve text r) o s) (λ j. (sym (x .offset) j, sym (x .len) j))
-          (subst (λ (b : Expr Span). RuleFits p (bytesAt text (n .0 .name)) (resolve text b) o s) (at-unique _ _ at a)
-          (rule-fits-same {os′ = os₀} g (n .0) (n .1) (n .2) (λ y b. stepOf-less step k (resolveTable text₀ given) y b) (λ y b. stepOf-text step k (resolveTable text₀ given) y b) (record { rules = q .fits k ts h .rules; rows = omega (arith, q .fits k ts h .rows, l .out-same); text = omega (arith, q .fits k ts h .text, l .lits-same) })))
-      ; counts = λ k r a. subst (λ (b : Expr Span). anyNode zeroCount b ≡ false) (at-unique _ _ at a) (no-zero ts (g .done) (n .0) (n .1) (g .whole ∙ ap (λ (y : Table Span). g .done ++ y) (n .2)) (q .counts k ts h)) }
+      record {
+        table = given;
+        lent = lent;
+        fits = λ k r a.
+            subst (λ (c : ℕ × ℕ). RuleFits p (bytesAt text c) (resolve text r) o s) (λ j. (sym (x .offset) j, sym (x .len) j))
+            (subst (λ (b : Expr Span). RuleFits p (bytesAt text (n .0 .name)) (resolve text b) o s) (at-unique _ _ at a)
+            (rule-fits-same {os′ = os₀} g (n .0) (n .1) (n .2) (λ y b. stepOf-less step k (resolveTable text₀ given) y b) (λ y b. stepOf-text step k (resolveTable text₀ given) y b) (record { rules = q .fits k .rules; rows = omega (arith, q .fits k .rows, l .out-same); text = omega (arith, q .fits k .text, l .lits-same) })));
+        counts = λ k r a. subst (λ (b : Expr Span). anyNode zeroCount b ≡ false) (at-unique _ _ at a) (no-zero ts (g .done) (n .0) (n .1) (g .whole ∙ ap (λ (y : Table Span). g .done ++ y) (n .2)) (q .counts k));
+      }
 
   -- the answer for the rule, in the rule's own terms
   rule-answer : (a : Wrote) (t : Table Bytes) (ts : Table Span) (os′ o′ s′ : List ℕ) (r : Rule Span) → Next ts rs ws text i end r → RuleAnswer a p i (getD rs (i * 4 + 2) 0) (bytesAt text (getD rs (i * 4) 0, getD rs (i * 4 + 1) 0)) (stepOf step t (getD rs (i * 4 + 2) 0) (resolve text (r .body))) os os′ o o′ s s′ → RuleAnswer a p i (r .type) (bytesAt text (r .name)) (stepOf step t (r .type) (resolve text (r .body))) os os′ o o′ s s′
@@ -96,13 +97,13 @@ module _ {step : ℕ} {rs₀ ws₀ : List ℕ} {text₀ : Bytes} {rs ws : List �
   said a root os′ o′ s′ f gs ts g r n e = rule-answer a (resolveTable text₀ gs) ts os′ o′ s′ r n (f gs (r .body) g (n .at root e))
 
   -- one more rule is done
-  pub loop-next : {a : Wrote} {q : Place} {root end′ : ℕ} (os′ o′ s′ : List ℕ) → a ≡ Done q → Held rs ws text → length rs ≤ length os₀ → length os′ ≡ length os → length o′ ≡ length o → length s′ ≡ length s → end′ ≡ end + getD rs (i * 4 + 3) 0 → root + 1 ≡ end′ → Said a root os′ o′ s′ → Loop step rs₀ ws₀ text₀ rs ws text os₀ o₀ s₀ os′ o′ s′ q end′ (i + 1)
-  loop-next {a} {q} {root} {end′} os′ o′ s′ d held k eos eo es e e₂ f =
+  pub loop-next : {a : Wrote} {q : Place} {root end′ : ℕ} (os′ o′ s′ : List ℕ) → a ≡ Done q → (ts : Table Span) → Holds ts rs ws text → length rs ≤ length os₀ → length os′ ≡ length os → length o′ ≡ length o → length s′ ≡ length s → end′ ≡ end + getD rs (i * 4 + 3) 0 → root + 1 ≡ end′ → Said a root os′ o′ s′ → Loop step rs₀ ws₀ text₀ rs ws text os₀ o₀ s₀ os′ o′ s′ q end′ (i + 1)
+  loop-next {a} {q} {root} {end′} os′ o′ s′ d tab held k eos eo es e e₂ f =
       record {
         heads-same = eos ∙ l .heads-same;
         out-same = eo ∙ l .out-same;
         lits-same = es ∙ l .lits-same;
-        room = rule-room (kept given (held .table) lent (held .holds));
+        room = rule-room (kept given tab lent held);
         progress = λ gs ts k₀ h.
             let g = l .progress gs ts k₀ h in
             let n = next-rule _ ts text i end p os o s rs (h .rules) m g in

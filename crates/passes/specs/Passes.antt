@@ -90,23 +90,20 @@ pub record Holds (t : Table Span) (rs ws : List ℕ) (text : Bytes) : Type 0 whe
   pub inside : Inside ws (length text)
   pub names : (i : ℕ) → i < length rs / 4 → getD rs (i * 4) 0 + getD rs (i * 4 + 1) 0 ≤ length text
 
--- some table does
-pub record Held (rs ws : List ℕ) (text : Bytes) : Type 0 where
-  pub table : Table Span
-  pub holds : Holds table rs ws text
-
 -- a table of trees over bytes fits three areas
 pub record TableFits (t : Table Bytes) (os o s : List ℕ) : Type 0 where
   pub rules : length t * 4 ≤ length os
   pub rows : rowCount t ≤ length o / 4
   pub text : length (tableText t) ≤ length s
 
--- what a step asks of a table
-pub record TablePrepared (step : ℕ) (rs₀ ws₀ rs ws : List ℕ) (text : Bytes) (os o s : List ℕ) : Type 0 where
+-- a pass: the table that the step looks into, the table that it reads, and what it asks of that
+pub record Passing (step : ℕ) (rs₀ ws₀ rs ws : List ℕ) (text : Bytes) (os o s : List ℕ) : Type 0 where
+  pub given : Table Span
+  pub lent : Lent given rs₀ ws₀
   pub table : Table Span
-  pub lent : Lent table rs₀ ws₀
-  pub fits : grows step ≡ false → (t : Table Span) → Holds t rs ws text → TableFits (resolveTable text t) os o s
-  pub counts : step ≡ 3 → (t : Table Span) → Holds t rs ws text → zeroCounts t ≡ false
+  pub holds : Holds table rs ws text
+  pub fits : grows step ≡ false → TableFits (resolveTable text table) os o s
+  pub counts : step ≡ 3 → zeroCounts table ≡ false
 
 -- the packed table t stands at the front of three areas, up to q
 pub record Front (q : Place) (t : Table Bytes) (os o s : List ℕ) : Type 0 where

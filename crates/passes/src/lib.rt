@@ -10,7 +10,7 @@ ghost use Rattle.grammar.specs.Table.{Table, resolveTable};
 ghost use Rattle.grammar.specs.Steps.{each};
 ghost use Rattle.rows.specs.Rows.{Inside, At, Stands};
 ghost use Rattle.writing.specs.Writes.{Room, Areas};
-ghost use Rattle.passes.specs.Passes.{stepOf, StepAnswer, Lent, Prepared, NameAnswer, RuleReady, RulePrepared, RuleAnswer, Holds, Held, TablePrepared, TableFits, PassAnswer};
+ghost use Rattle.passes.specs.Passes.{stepOf, StepAnswer, Lent, Prepared, NameAnswer, RuleReady, RulePrepared, RuleAnswer, Holds, Passing, TableFits, PassAnswer};
 use rows::wide;
 use writing::Place;
 use writing::Wrote;
@@ -129,10 +129,9 @@ pub fn pass(
     out: &mut [u32],
     lits: &mut [u8],
 ) -> Wrote
-    requires { ⌜ Held (now rules) (now rows) (now text) ⌝ }
+    requires { ⌜ Passing step (now heads0) (now rows0) (now rules) (now rows) (now text) (now heads) (now out) (now lits) ⌝ }
     requires { ⌜ length (now rules) ≤ length (now heads) ⌝ }
     requires { ⌜ Areas (now out) (now lits) ⌝ }
-    requires { ⌜ TablePrepared step (now heads0) (now rows0) (now rules) (now rows) (now text) (now heads) (now out) (now lits) ⌝ }
     ensures { λ a. ⌜ ((gs ts : Table Span) → Lent gs (now (heads0 .entry)) (now (rows0 .entry)) → Holds ts (now (rules .entry)) (now (rows .entry)) (now (text .entry)) → PassAnswer a (each (stepOf step (resolveTable (now (text0 .entry)) gs)) (resolveTable (now (text .entry)) ts)) (now (heads .entry)) (now (out .entry)) (now (lits .entry)) (now (heads .exit)) (now (out .exit)) (now (lits .exit))) ⌝ }
 {
     let count = rules.len() / 4;

@@ -22,7 +22,7 @@ abbrev μ-loop : tie.MeasureT-loop
 
 -- src/lib.rt:142:5
 loop-holds : tie.Need-loop-holds Inv-loop μ-loop
-loop-holds c = (refl, loop-start _ _ _ _ _ _ _ _ _ _ _ refl refl (c .before .before .before .before .before .before .before .before .before .before .pre .1 .1 .0))
+loop-holds c = (refl, loop-start _ _ _ _ _ _ _ _ _ _ _ refl refl (c .before .before .before .before .before .before .before .before .before .before .pre .1 .1))
 
 -- src/lib.rt:143:27
 mul-wide : tie.Need-mul-wide Inv-loop μ-loop
@@ -50,8 +50,8 @@ add-end c =
     let s = c .before .before .before .before .before .before .before .before .before .before .before .before .before .before in
     let l = c .before .before .before .loop .inv .1 in
     let m : c .before .before .before .loop .i < length (s .args .rules .now) / 4 = omega arith in
-    let q = s .pre .1 .1 .1 in
-    let h = here l m (q .table) (q .lent) (s .pre .0 .table) (s .pre .0 .holds) in
+    let q = s .pre .0 in
+    let h = here l m (q .given) (q .lent) (q .table) (q .holds) in
     omega (arith, h .bound, h .next .count, c .wide .ensures)
 
 -- src/lib.rt:154:13
@@ -60,8 +60,8 @@ sub-one-rule c =
     let s = c .before .before .before .before .before .before .before .before .before .before .before .before .before .before in
     let l = c .before .before .before .loop .inv .1 in
     let m : c .before .before .before .loop .i < length (s .args .rules .now) / 4 = omega arith in
-    let q = s .pre .1 .1 .1 in
-    let h = here l m (q .table) (q .lent) (s .pre .0 .table) (s .pre .0 .holds) in
+    let q = s .pre .0 in
+    let h = here l m (q .given) (q .lent) (q .table) (q .holds) in
     omega (arith, h .next .count, size-pos (h .rule .body), c .wide .ensures)
 
 -- src/lib.rt:144:30
@@ -70,9 +70,9 @@ one-rule-requires c κs =
     let s = c .before .before .before .before .before .before .before .before .before .before .before .before .before .before .before .before .before in
     let l = c .before .before .before .before .before .before .loop .inv .1 in
     let m : c .before .before .before .before .before .before .loop .i < length (s .args .rules .now) / 4 = omega arith in
-    let q = s .pre .1 .1 .1 in
-    let h = here l m (q .table) (q .lent) (s .pre .0 .table) (s .pre .0 .holds) in
-    (s .pre .0 .holds .inside, (record { tree = h .rule .body; at = h .next .at _ (omega (arith, h .next .count, size-pos (h .rule .body), c .before .before .before .wide .ensures)) }, (l .room, (ready l m (q .table) (q .lent) (s .pre .0 .table) (s .pre .0 .holds) (s .pre .1 .0), rule-prepared l m (q .table) (q .lent) (s .pre .0) q _ (omega (arith, h .next .count, size-pos (h .rule .body), c .before .before .before .wide .ensures))))))
+    let q = s .pre .0 in
+    let h = here l m (q .given) (q .lent) (q .table) (q .holds) in
+    (q .holds .inside, (record { tree = h .rule .body; at = h .next .at _ (omega (arith, h .next .count, size-pos (h .rule .body), c .before .before .before .wide .ensures)) }, (l .room, (ready l m (q .given) (q .lent) (q .table) (q .holds) (s .pre .1 .0), rule-prepared l m (q .given) (q .lent) q _ (omega (arith, h .next .count, size-pos (h .rule .body), c .before .before .before .wide .ensures))))))
 
 -- src/lib.rt:144:25
 enum-known-q : tie.Need-enum-known-q Inv-loop μ-loop
@@ -100,9 +100,9 @@ returns c =
     let s = c .before .before .before .before .before .before .before .before .before .before .before .before .before .before .before .before .before .before .before .before .before .before .before .before .before .before in
     let l = c .before .before .before .before .before .before .before .before .before .before .before .before .before .before .before .loop .inv .1 in
     let m : c .before .before .before .before .before .before .before .before .before .before .before .before .before .before .before .loop .i < length (s .args .rules .now) / 4 = omega arith in
-    let q = s .pre .1 .1 .1 in
-    let h = here l m (q .table) (q .lent) (s .pre .0 .table) (s .pre .0 .holds) in
-    λ gs ts g x. loop-full l m (q .table) (q .lent) {end′ = c .before .before .before .before .before .before .before .before .before .before .before .before .before .before .before .loop .end + c .before .before .before .before .before .before .before .before .before .before .before .before .wide .result} _ _ _ (c .enum-told .given .1) (omega (arith, c .before .before .before .before .before .before .before .before .before .before .before .before .wide .ensures)) (omega (arith, h .next .count, size-pos (h .rule .body), c .before .before .before .before .before .before .before .before .before .before .before .before .wide .ensures)) (c .before .before .before .before .before .before .before .before .one-rule .ensures) gs ts g x
+    let q = s .pre .0 in
+    let h = here l m (q .given) (q .lent) (q .table) (q .holds) in
+    λ gs ts g x. loop-full l m (q .given) (q .lent) {end′ = c .before .before .before .before .before .before .before .before .before .before .before .before .before .before .before .loop .end + c .before .before .before .before .before .before .before .before .before .before .before .before .wide .result} _ _ _ (c .enum-told .given .1) (omega (arith, c .before .before .before .before .before .before .before .before .before .before .before .before .wide .ensures)) (omega (arith, h .next .count, size-pos (h .rule .body), c .before .before .before .before .before .before .before .before .before .before .before .before .wide .ensures)) (c .before .before .before .before .before .before .before .before .one-rule .ensures) gs ts g x
 
 -- src/lib.rt:163:9
 add-i : tie.Need-add-i Inv-loop μ-loop
@@ -118,9 +118,9 @@ loop-again c =
     let s = c .before .before .before .before .before .before .before .before .before .before .before .before .before .before .before .before .before .before .before .before .before .before .before .before .before .before .before in
     let l = c .before .before .before .before .before .before .before .before .before .before .before .before .before .before .before .before .loop .inv .1 in
     let m : c .before .before .before .before .before .before .before .before .before .before .before .before .before .before .before .before .loop .i < length (s .args .rules .now) / 4 = omega (arith, c .before .before .before .before .before .before .before .before .before .before .before .before .before .before .before .loop-test .taken, c .before .before .before .before .before .before .before .before .before .before .before .before .before .before .before .before .loop .inv .0) in
-    let q = s .pre .1 .1 .1 in
-    let h = here l m (q .table) (q .lent) (s .pre .0 .table) (s .pre .0 .holds) in
-    (c .before .before .before .before .before .before .before .before .before .before .before .before .before .before .before .before .loop .inv .0, loop-next l m (q .table) (q .lent) _ _ _ (c .before .q .given .1) (s .pre .0) (s .pre .1 .0) (c .before .before .before .before .before .before .before .before .before .one-rule .kept .1 .1 .1 .1 .1 .1 .1 .1 .1 .1 .0) (c .before .before .before .before .before .before .before .before .before .one-rule .kept .1 .1 .1 .1 .1 .1 .1 .1 .1 .1 .1 .0) (c .before .before .before .before .before .before .before .before .before .one-rule .kept .1 .1 .1 .1 .1 .1 .1 .1 .1 .1 .1 .1 .0) (omega (arith, c .before .before .before .before .before .before .before .before .before .before .before .before .before .wide .ensures)) (omega (arith, h .next .count, size-pos (h .rule .body), c .before .before .before .before .before .before .before .before .before .before .before .before .before .wide .ensures)) (c .before .before .before .before .before .before .before .before .before .one-rule .ensures))
+    let q = s .pre .0 in
+    let h = here l m (q .given) (q .lent) (q .table) (q .holds) in
+    (c .before .before .before .before .before .before .before .before .before .before .before .before .before .before .before .before .loop .inv .0, loop-next l m (q .given) (q .lent) _ _ _ (c .before .q .given .1) (q .table) (q .holds) (s .pre .1 .0) (c .before .before .before .before .before .before .before .before .before .one-rule .kept .1 .1 .1 .1 .1 .1 .1 .1 .1 .1 .0) (c .before .before .before .before .before .before .before .before .before .one-rule .kept .1 .1 .1 .1 .1 .1 .1 .1 .1 .1 .1 .0) (c .before .before .before .before .before .before .before .before .before .one-rule .kept .1 .1 .1 .1 .1 .1 .1 .1 .1 .1 .1 .1 .0) (omega (arith, c .before .before .before .before .before .before .before .before .before .before .before .before .before .wide .ensures)) (omega (arith, h .next .count, size-pos (h .rule .body), c .before .before .before .before .before .before .before .before .before .before .before .before .before .wide .ensures)) (c .before .before .before .before .before .before .before .before .before .one-rule .ensures))
 
 -- src/lib.rt:119:1
 same-length-4 : tie.Need-same-length-4 Inv-loop μ-loop
