@@ -1,0 +1,4 @@
+-- Laws of chains, that step proofs use.
+pub mod Trees
+pub mod Closes
+pub mod Walks

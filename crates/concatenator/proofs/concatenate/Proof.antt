@@ -1,0 +1,44 @@
+-- `concatenate` meets its contract: the walk for an Atomic rule, a copy for any other. Assumes nothing.
+use mathlib.Core.Path.{_≡_, sym}
+use Rattle.grammar.specs.Text.{resolve}
+use Rattle.concatenator.proofs.Nodes.{concat-atomic, concat-other, kept-same}
+use borrow.Author.Needs.{needs}
+use Rattle.concatenator.proofs.concatenate.Statement.{statement}
+use Rattle.concatenator.proofs.concatenate.Tie as tie
+
+bottom-up-requires : tie.Need-bottom-up-requires
+bottom-up-requires c κs = search needs
+
+keep-requires : tie.Need-keep-requires
+keep-requires c κs = search needs
+
+same-length : tie.Need-same-length
+same-length c = search needs
+
+same-length-2 : tie.Need-same-length-2
+same-length-2 c = search needs
+
+returns : tie.Need-returns
+returns c = λ r a. kept-same (c .before .before .before .before .bottom-up .result) (c .before .before .before .before .before .before .before .before .before .before .before .before .args .p) _ _ (c .before .before .before .before .before .before .before .before .before .before .before .before .args .out .now) (c .before .before .before .before .bottom-up .last .1 .1 .1 .0) (c .before .before .before .before .before .before .before .before .before .before .before .before .args .lits .now) (c .before .before .before .before .bottom-up .last .1 .1 .1 .1 .0) (concat-atomic (c .before .before .before .before .before .before .before .before .before .before .before .before .args .rule) (c .before .before .before .before .before .before .before .if1 .taken) (resolve (c .before .before .before .before .before .before .before .before .before .before .before .before .args .text .now) r)) (c .before .before .before .before .bottom-up .ensures r a)
+
+same-length-3 : tie.Need-same-length-3
+same-length-3 c = search needs
+
+same-length-4 : tie.Need-same-length-4
+same-length-4 c = search needs
+
+returns-2 : tie.Need-returns-2
+returns-2 c = λ r a. kept-same (c .before .before .before .before .keep .result) (c .before .before .before .before .before .before .before .before .before .before .before .before .args .p) _ _ (c .before .before .before .before .before .before .before .before .before .before .before .before .args .out .now) (c .before .before .before .before .keep .last .1 .1 .1 .0) (c .before .before .before .before .before .before .before .before .before .before .before .before .args .lits .now) (c .before .before .before .before .keep .last .1 .1 .1 .1 .0) (sym (concat-other (c .before .before .before .before .before .before .before .before .before .before .before .before .args .rule) (c .before .before .before .before .before .before .before .if1 .left) (resolve (c .before .before .before .before .before .before .before .before .before .before .before .before .args .text .now) r))) (c .before .before .before .before .keep .ensures r a)
+
+pub concatenate-spec : {M : Type 1} → statement M
+concatenate-spec =
+    tie.close
+    (tie.spec
+    bottom-up-requires
+    keep-requires
+    same-length
+    same-length-2
+    returns
+    same-length-3
+    same-length-4
+    returns-2)

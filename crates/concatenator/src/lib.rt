@@ -1,0 +1,151 @@
+// Concatenate: a Seq of two Str, or of two Insens, is one; bottom-up, in Atomic rules alone.
+ghost use mathlib.Core.Path.{_≡_};
+ghost use Prim.Native.Nat.{_-_};
+ghost use lib.ListN.{length};
+ghost use Rattle.grammar.specs.Tree.{Expr};
+ghost use Rattle.grammar.specs.Rows.{Span};
+ghost use Rattle.grammar.specs.Text.{resolve};
+ghost use Rattle.grammar.specs.Table.{Atomic};
+ghost use Rattle.grammar.specs.Steps.{concatenate};
+ghost use Rattle.rows.specs.Rows.{kindAt, Inside, At};
+ghost use Rattle.writing.specs.Writes.{Areas};
+ghost use Rattle.writing.specs.Keeps.{KeptAnswer, Ready};
+ghost use Rattle.concatenator.specs.Joins.{joinsOf, Order, EndAnswer};
+use rows::Lookup;
+use rows::Shape;
+use writing::Place;
+use writing::Wrote;
+
+// Whether a node of a kind over roots of two kinds is one literal.
+fn joins(kind: u32, a: u32, b: u32) -> bool
+    ensures { λ r. ⌜ r ≡ joinsOf kind a b ⌝ }
+{
+    if kind != 8 {
+        return false;
+    }
+    if a < 2 {
+        return a == b;
+    }
+    false
+}
+
+// Ends a node of two children that stand from p to q and from q to s. Their literals are adjacent: one row names both.
+fn finish(out: &mut [u32], p: Place, q: Place, s: Place, kind: u32) -> Wrote
+    requires { ⌜ Order p q s (now out) ⌝ }
+    ensures { λ a. ⌜ EndAnswer a (joinsOf kind (kindAt (now (out .entry)) (q .rows - 1)) (kindAt (now (out .entry)) (s .rows - 1))) p s kind (kindAt (now (out .entry)) (q .rows - 1)) (now (out .entry)) (now (out .exit)) ⌝ }
+{
+    let first = q.rows - 1;
+    let second = s.rows - 1;
+    let Lookup::Row {
+        kind: a,
+        x: _,
+        y: _,
+        size: _,
+    } = rows::row_at(out, first)
+    else {
+        return Wrote::Full;
+    };
+    let Lookup::Row {
+        kind: b,
+        x: _,
+        y: _,
+        size: _,
+    } = rows::row_at(out, second)
+    else {
+        return Wrote::Full;
+    };
+    let from = p.rows;
+    let at = p.text;
+    let end = s.rows;
+    let text = s.text;
+    if joins(kind, a, b) {
+        writing::set_row(out, from, a, at as u32, (text - at) as u32, 1);
+        Wrote::Done(Place {
+            rows: from + 1,
+            text,
+        })
+    } else {
+        writing::set_row(out, end, kind, 0, 0, (end - from + 1) as u32);
+        Wrote::Done(Place {
+            rows: end + 1,
+            text,
+        })
+    }
+}
+
+// Writes the subtree of row `root`, which fits, at p: its children first, then its own row or the literal that they make.
+fn bottom_up(
+    rows: &[u32],
+    text: &[u8],
+    root: usize,
+    out: &mut [u32],
+    lits: &mut [u8],
+    p: Place,
+) -> Wrote
+    requires { ⌜ Inside (now rows) (length (now text)) ⌝ }
+    requires { ⌜ Ready (now rows) (now text) root p (now out) (now lits) ⌝ }
+    requires { ⌜ Areas (now out) (now lits) ⌝ }
+    ensures { λ a. ⌜ ((r : Expr Span) → At (now (rows .entry)) root r → KeptAnswer a p (concatenate Atomic (resolve (now (text .entry)) r)) (now (out .entry)) (now (out .exit)) (now (lits .entry)) (now (lits .exit))) ⌝ }
+{
+    let Lookup::Row {
+        kind,
+        x,
+        y,
+        size: _,
+    } = rows::row_at(rows, root)
+    else {
+        return Wrote::Full;
+    };
+    match rows::shape_of(kind) {
+        Shape::Lit => writing::keep(rows, text, root, out, lits, p),
+        Shape::Num => writing::keep(rows, text, root, out, lits, p),
+        Shape::Skips => writing::keep(rows, text, root, out, lits, p),
+        Shape::One => {
+            let Wrote::Done(q) = bottom_up(rows, text, root - 1, out, lits, p) else {
+                return Wrote::Full;
+            };
+            writing::put_row(out, q, kind, x, y, (q.rows - p.rows + 1) as u32)
+        }
+        Shape::Two => {
+            let right = root - 1;
+            let Lookup::Row {
+                kind: _,
+                x: _,
+                y: _,
+                size: n,
+            } = rows::row_at(rows, right)
+            else {
+                return Wrote::Full;
+            };
+            let Wrote::Done(q) = bottom_up(rows, text, right - n as usize, out, lits, p) else {
+                return Wrote::Full;
+            };
+            let Wrote::Done(s) = bottom_up(rows, text, right, out, lits, q) else {
+                return Wrote::Full;
+            };
+            finish(out, p, q, s, kind)
+        }
+    }
+}
+
+// Writes the concatenated subtree of row `root`, which fits, at p; in a rule of another type than Atomic (2), the subtree as it is.
+pub fn concatenate(
+    rows: &[u32],
+    text: &[u8],
+    root: usize,
+    rule: u32,
+    out: &mut [u32],
+    lits: &mut [u8],
+    p: Place,
+) -> Wrote
+    requires { ⌜ Inside (now rows) (length (now text)) ⌝ }
+    requires { ⌜ Ready (now rows) (now text) root p (now out) (now lits) ⌝ }
+    requires { ⌜ Areas (now out) (now lits) ⌝ }
+    ensures { λ a. ⌜ ((r : Expr Span) → At (now (rows .entry)) root r → KeptAnswer a p (concatenate rule (resolve (now (text .entry)) r)) (now (out .entry)) (now (out .exit)) (now (lits .entry)) (now (lits .exit))) ⌝ }
+{
+    if rule == 2 {
+        bottom_up(rows, text, root, out, lits, p)
+    } else {
+        writing::keep(rows, text, root, out, lits, p)
+    }
+}

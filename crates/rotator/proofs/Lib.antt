@@ -1,0 +1,3 @@
+-- Laws of rotation.
+pub mod Rotations
+pub mod Kepts
