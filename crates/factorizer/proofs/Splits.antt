@@ -1,0 +1,60 @@
+-- A Seq's sides in rows, and the case of a Choice by what was told of its sides. Assumes nothing.
+use mathlib.Core.Path.{_≡_, refl, sym, ap, subst, _∙_}
+use mathlib.Core.Bool.{Bool, true, false}
+use mathlib.Core.List.{List}
+use mathlib.Core.Option.{none}
+use Prim.Native.Nat.{ℕ, _+_, _-_, _≤_}
+use native.Mathlib.Omega.{arith}
+use lib.ListN.{length}
+use Rattle.grammar.specs.Basic.{Bytes}
+use Rattle.grammar.specs.Tree.{Expr, Seq, Choice, bin, size, asSeq}
+use Rattle.grammar.specs.Rows.{Span}
+use Rattle.grammar.specs.Text.{resolve}
+use Rattle.rows.specs.Rows.{At, Inside, StandsIn, shapeOf}
+use Rattle.rows.proofs.Laws.{Found, found-size}
+use Rattle.rows.proofs.Views.{TwoView, as-two, two-is, inside-within}
+use Rattle.rows.proofs.Cells.{bin-shape}
+use Rattle.factorizer.specs.declared.Sides.{Sides}
+use Rattle.factorizer.specs.declared.Sides.the-variants.{Split, Other}
+use Rattle.factorizer.specs.declared.Case.the-variants.{Heads, Tail, First, Plain}
+use Rattle.factorizer.specs.Cases.{SeqAt, SidesTold, CaseTold}
+use Rattle.factorizer.proofs.Factors.{no-heads, no-tail, no-first, no-seqs}
+
+-- ---- a Seq row
+
+pub seq-view : {w : List ℕ} {i k x y n : ℕ} {r : Expr Span} → Found w i k x y n → At w i r → k ≡ 8 → TwoView w i k x y n r
+seq-view f a e = as-two f a (ap shapeOf e ∙ bin-shape Seq)
+
+pub seq-at : {w : List ℕ} {i k x y n k′ x′ y′ n′ : ℕ} {r : Expr Span} → Found w i k x y n → At w i r → k ≡ 8 → Found w (i - 1) k′ x′ y′ n′ → {m : ℕ} → m ≡ n′ → SeqAt w (i - 1 - m) (i - 1) r
+seq-at f a e g h =
+    let v = seq-view f a e in
+    record { head = v .left; tail = v .right; is = two-is Seq v e; atHead = rw (h ∙ found-size g (v .atRight)) (v .atLeft); atTail = v .atRight }
+
+-- ---- what was told
+
+module _ {s : Sides} (w : List ℕ) (t : Bytes) (x : Expr Span) where
+  pub told-split : {a b : ℕ} → s ≡ Split a b → SidesTold s w t x → SeqAt w a b x
+  told-split e h = subst (λ (z : Sides). SidesTold z w t x) e h
+
+  pub told-other : s ≡ Other → SidesTold s w t x → asSeq (resolve t x) ≡ none
+  told-other e h = subst (λ (z : Sides). SidesTold z w t x) e h
+
+-- a tree of the rows, with its literals in the text
+pub stands-in : {w : List ℕ} {i n : ℕ} {r : Expr Span} → Inside w n → At w i r → StandsIn w i n
+stands-in {n} {r} h a = record { tree = r; at = a; within = inside-within n r h a }
+
+is-bin : (t : Bytes) {w : List ℕ} {a b : ℕ} {z : Expr Span} (s : SeqAt w a b z) → resolve t z ≡ bin Seq (resolve t (s .head)) (resolve t (s .tail))
+is-bin t s = ap (resolve t) (s .is)
+
+module _ (tight : Bool) (w : List ℕ) (t : Bytes) (x y : Expr Span) where
+  pub plain-heads : {a b c d : ℕ} (l : SeqAt w a b x) (r : SeqAt w c d y) → (resolve t (l .head) ≡ resolve t (r .head) → ⊥) → CaseTold Plain tight w t x y
+  plain-heads l r n = no-heads tight _ _ _ _ _ _ (is-bin t l) (is-bin t r) n
+
+  pub plain-tail : {a b : ℕ} (l : SeqAt w a b x) → asSeq (resolve t y) ≡ none → (tight ≡ true → resolve t (l .head) ≡ resolve t y → ⊥) → CaseTold Plain tight w t x y
+  plain-tail l r n = no-tail tight _ _ _ _ (is-bin t l) r n
+
+  pub plain-first : {c d : ℕ} → asSeq (resolve t x) ≡ none → (r : SeqAt w c d y) → (resolve t x ≡ resolve t (r .head) → ⊥) → CaseTold Plain tight w t x y
+  plain-first l r n = no-first tight _ _ _ _ l (is-bin t r) n
+
+  pub plain-other : asSeq (resolve t x) ≡ none → asSeq (resolve t y) ≡ none → CaseTold Plain tight w t x y
+  plain-other l r = no-seqs tight _ _ l r

@@ -1,0 +1,305 @@
+// Factor, over a whole subtree: a Choice of two sides that begin alike.
+ghost use mathlib.Core.Path.{_≡_};
+ghost use mathlib.Core.Bool.{Bool};
+ghost use Rattle.grammar.specs.Basic.{Bytes};
+ghost use Prim.Native.Nat.{ℕ, _+_, _-_, _*_, _/_, _^_, _≤_, _<_};
+ghost use lib.ListN.{length};
+ghost use Rattle.grammar.specs.Tree.{Expr, E, Bin, Choice, bin, binKind};
+ghost use Rattle.grammar.specs.Rows.{Span};
+ghost use Rattle.grammar.specs.Text.{resolve};
+ghost use Rattle.grammar.specs.Steps.{isTight, factor};
+ghost use Rattle.rows.specs.Rows.{Inside, At, Stands};
+ghost use Rattle.writing.specs.Writes.{Areas, RowAnswer};
+ghost use Rattle.writing.specs.Keeps.{KeptAnswer, Ready};
+ghost use Rattle.factorizer.specs.Factors.{factored, beneath, ReadyBoth};
+ghost use Rattle.factorizer.specs.Cases.{SidesTold, CaseTold};
+use rows::Lookup;
+use rows::Shape;
+use writing::Place;
+use writing::Wrote;
+
+// The roots of a Seq's two sides.
+pub enum Sides {
+    Split { head: usize, tail: usize },
+    Other,
+}
+
+// What a Choice of two subtrees is, by the roots that it goes on with:
+// (a~b)|(a~c); (a~b)|a in a tight rule; a|(a~b); all else.
+pub enum Case {
+    Heads { a: usize, b: usize, c: usize },
+    Tail { a: usize, b: usize },
+    First,
+    Plain,
+}
+
+// Whether a rule's type is Atomic or CompoundAtomic.
+pub fn tight_rule(rule: u32) -> bool
+    ensures { λ r. ⌜ r ≡ isTight rule ⌝ }
+{
+    if rule == 2 {
+        return true;
+    }
+    rule == 3
+}
+
+// Whether the row `root` is a Seq, and where its sides stand.
+pub fn split(rows: &[u32], root: usize) -> Sides
+    requires { ⌜ Stands (now rows) root ⌝ }
+    ensures { λ a. ⌜ ((t : Bytes) (x : Expr Span) → At (now (rows .entry)) root x → SidesTold a (now (rows .entry)) t x) ⌝ }
+{
+    let Lookup::Row {
+        kind: k,
+        x: _,
+        y: _,
+        size: _,
+    } = rows::row_at(rows, root)
+    else {
+        return Sides::Other;
+    };
+    if k != 8 {
+        return Sides::Other;
+    }
+    let tail = root - 1;
+    let Lookup::Row {
+        kind: _,
+        x: _,
+        y: _,
+        size: n,
+    } = rows::row_at(rows, tail)
+    else {
+        return Sides::Other;
+    };
+    let head = tail - rows::wide(n);
+    Sides::Split { head, tail }
+}
+
+// Which case the Choice of the subtrees of rows l and r is: the first that fits.
+pub fn case_of(rows: &[u32], text: &[u8], l: usize, r: usize, tight: bool) -> Case
+    requires { ⌜ Inside (now rows) (length (now text)) ⌝ }
+    requires { ⌜ Stands (now rows) l ⌝ }
+    requires { ⌜ Stands (now rows) r ⌝ }
+    ensures { λ a. ⌜ ((x y : Expr Span) → At (now (rows .entry)) l x → At (now (rows .entry)) r y → CaseTold a tight (now (rows .entry)) (now (text .entry)) x y) ⌝ }
+{
+    let left = split(rows, l);
+    let right = split(rows, r);
+    match left {
+        Sides::Split { head: a, tail: b } => match right {
+            Sides::Split { head: d, tail: c } => {
+                if rows::same_tree(rows, text, a, rows, text, d) {
+                    Case::Heads { a, b, c }
+                } else {
+                    Case::Plain
+                }
+            }
+            Sides::Other => {
+                if !tight {
+                    return Case::Plain;
+                }
+                if rows::same_tree(rows, text, a, rows, text, r) {
+                    Case::Tail { a, b }
+                } else {
+                    Case::Plain
+                }
+            }
+        },
+        Sides::Other => match right {
+            Sides::Split { head: d, tail: _ } => {
+                if rows::same_tree(rows, text, l, rows, text, d) {
+                    Case::First
+                } else {
+                    Case::Plain
+                }
+            }
+            Sides::Other => Case::Plain,
+        },
+    }
+}
+
+// Ends a node whose children stand from p to q.
+pub fn end(out: &mut [u32], p: Place, q: Place, kind: u32, x: u32, y: u32) -> Wrote
+    requires { ⌜ (p .rows ≤ q .rows) × (q .rows < 2 ^ 30) ⌝ }
+    ensures { λ a. ⌜ RowAnswer a q (kind, x, y) (q .rows - p .rows + 1) (now (out .entry)) (now (out .exit)) ⌝ }
+{
+    writing::put_row(out, q, kind, x, y, (q.rows - p.rows + 1) as u32)
+}
+
+// Writes the factored subtrees of rows l and r, and a row of `kind` over them.
+pub fn both(
+    rows: &[u32],
+    text: &[u8],
+    l: usize,
+    r: usize,
+    tight: bool,
+    kind: u32,
+    out: &mut [u32],
+    lits: &mut [u8],
+    p: Place,
+) -> Wrote
+    requires { ⌜ Inside (now rows) (length (now text)) ⌝ }
+    requires { ⌜ ReadyBoth (now rows) (now text) l r p (now out) (now lits) ⌝ }
+    requires { ⌜ Areas (now out) (now lits) ⌝ }
+    ensures { λ a. ⌜ ((b : Bin) (x y : Expr Span) → kind ≡ binKind b → At (now (rows .entry)) l x → At (now (rows .entry)) r y → KeptAnswer a p (bin b (factored tight (resolve (now (text .entry)) x)) (factored tight (resolve (now (text .entry)) y))) (now (out .entry)) (now (out .exit)) (now (lits .entry)) (now (lits .exit))) ⌝ }
+{
+    let Wrote::Done(q) = at(rows, text, l, tight, out, lits, p) else {
+        return Wrote::Full;
+    };
+    let Wrote::Done(s) = at(rows, text, r, tight, out, lits, q) else {
+        return Wrote::Full;
+    };
+    end(out, p, s, kind, 0, 0)
+}
+
+// Writes the factored form of the Choice of the subtrees of rows l and r, which need not stand together.
+pub fn choice(
+    rows: &[u32],
+    text: &[u8],
+    l: usize,
+    r: usize,
+    tight: bool,
+    out: &mut [u32],
+    lits: &mut [u8],
+    p: Place,
+) -> Wrote
+    requires { ⌜ Inside (now rows) (length (now text)) ⌝ }
+    requires { ⌜ ReadyBoth (now rows) (now text) l r p (now out) (now lits) ⌝ }
+    requires { ⌜ Areas (now out) (now lits) ⌝ }
+    ensures { λ a. ⌜ ((x y : Expr Span) → At (now (rows .entry)) l x → At (now (rows .entry)) r y → KeptAnswer a p (factored tight (bin Choice (resolve (now (text .entry)) x) (resolve (now (text .entry)) y))) (now (out .entry)) (now (out .exit)) (now (lits .entry)) (now (lits .exit))) ⌝ }
+{
+    match case_of(rows, text, l, r, tight) {
+        Case::Heads { a, b, c } => {
+            let Wrote::Done(q) = at(rows, text, a, tight, out, lits, p) else {
+                return Wrote::Full;
+            };
+            let Wrote::Done(s) = choice(rows, text, b, c, tight, out, lits, q) else {
+                return Wrote::Full;
+            };
+            end(out, p, s, 8, 0, 0)
+        }
+        Case::Tail { a, b } => {
+            let Wrote::Done(q) = at(rows, text, a, tight, out, lits, p) else {
+                return Wrote::Full;
+            };
+            let Wrote::Done(s) = at(rows, text, b, tight, out, lits, q) else {
+                return Wrote::Full;
+            };
+            let Wrote::Done(u) = end(out, q, s, 10, 0, 0) else {
+                return Wrote::Full;
+            };
+            end(out, p, u, 8, 0, 0)
+        }
+        // the root of what is left is not tried again
+        Case::First => children(rows, text, l, tight, out, lits, p),
+        Case::Plain => both(rows, text, l, r, tight, 9, out, lits, p),
+    }
+}
+
+// Writes the row `root` as it is, with its children factored.
+pub fn children(
+    rows: &[u32],
+    text: &[u8],
+    root: usize,
+    tight: bool,
+    out: &mut [u32],
+    lits: &mut [u8],
+    p: Place,
+) -> Wrote
+    requires { ⌜ Inside (now rows) (length (now text)) ⌝ }
+    requires { ⌜ Ready (now rows) (now text) root p (now out) (now lits) ⌝ }
+    requires { ⌜ Areas (now out) (now lits) ⌝ }
+    ensures { λ a. ⌜ ((r : Expr Span) → At (now (rows .entry)) root r → KeptAnswer a p (beneath tight (resolve (now (text .entry)) r)) (now (out .entry)) (now (out .exit)) (now (lits .entry)) (now (lits .exit))) ⌝ }
+{
+    let Lookup::Row {
+        kind,
+        x,
+        y,
+        size: _,
+    } = rows::row_at(rows, root)
+    else {
+        return Wrote::Full;
+    };
+    match rows::shape_of(kind) {
+        Shape::Lit => writing::keep(rows, text, root, out, lits, p),
+        Shape::Num => writing::keep(rows, text, root, out, lits, p),
+        Shape::Skips => writing::keep(rows, text, root, out, lits, p),
+        Shape::One => {
+            let Wrote::Done(q) = at(rows, text, root - 1, tight, out, lits, p) else {
+                return Wrote::Full;
+            };
+            end(out, p, q, kind, x, y)
+        }
+        Shape::Two => {
+            let right = root - 1;
+            let Lookup::Row {
+                kind: _,
+                x: _,
+                y: _,
+                size: n,
+            } = rows::row_at(rows, right)
+            else {
+                return Wrote::Full;
+            };
+            let left = right - rows::wide(n);
+            both(rows, text, left, right, tight, kind, out, lits, p)
+        }
+    }
+}
+
+// Writes the factored subtree of row `root`.
+pub fn at(
+    rows: &[u32],
+    text: &[u8],
+    root: usize,
+    tight: bool,
+    out: &mut [u32],
+    lits: &mut [u8],
+    p: Place,
+) -> Wrote
+    requires { ⌜ Inside (now rows) (length (now text)) ⌝ }
+    requires { ⌜ Ready (now rows) (now text) root p (now out) (now lits) ⌝ }
+    requires { ⌜ Areas (now out) (now lits) ⌝ }
+    ensures { λ a. ⌜ ((r : Expr Span) → At (now (rows .entry)) root r → KeptAnswer a p (factored tight (resolve (now (text .entry)) r)) (now (out .entry)) (now (out .exit)) (now (lits .entry)) (now (lits .exit))) ⌝ }
+{
+    let Lookup::Row {
+        kind: k,
+        x: _,
+        y: _,
+        size: _,
+    } = rows::row_at(rows, root)
+    else {
+        return Wrote::Full;
+    };
+    if k != 9 {
+        return children(rows, text, root, tight, out, lits, p);
+    }
+    let right = root - 1;
+    let Lookup::Row {
+        kind: _,
+        x: _,
+        y: _,
+        size: n,
+    } = rows::row_at(rows, right)
+    else {
+        return Wrote::Full;
+    };
+    let left = right - rows::wide(n);
+    choice(rows, text, left, right, tight, out, lits, p)
+}
+
+// Writes the factored subtree of row `root` of a rule of that type at p, its literals packed.
+pub fn factor(
+    rows: &[u32],
+    text: &[u8],
+    root: usize,
+    rule: u32,
+    out: &mut [u32],
+    lits: &mut [u8],
+    p: Place,
+) -> Wrote
+    requires { ⌜ Inside (now rows) (length (now text)) ⌝ }
+    requires { ⌜ Ready (now rows) (now text) root p (now out) (now lits) ⌝ }
+    requires { ⌜ Areas (now out) (now lits) ⌝ }
+    ensures { λ a. ⌜ ((r : Expr Span) → At (now (rows .entry)) root r → KeptAnswer a p (factor rule (resolve (now (text .entry)) r)) (now (out .entry)) (now (out .exit)) (now (lits .entry)) (now (lits .exit))) ⌝ }
+{
+    at(rows, text, root, tight_rule(rule), out, lits, p)
+}

@@ -1,0 +1,316 @@
+use Rattle.lister.proofs.Walks.{leaf-list, one-room, list-one, left-at, two-fits, two-pair, list-two}
+use mathlib.Core.Path.{_≡_, refl, sym, _∙_}
+use native.Mathlib.Omega.{arith}
+use Prim.Native.Nat.{_-_}
+use lib.ListN.{length}
+use Rattle.grammar.specs.Tree.{Expr, size}
+use Rattle.grammar.specs.Rows.{Span}
+use Rattle.grammar.specs.Text.{resolve}
+use Rattle.grammar.specs.Steps.{list as listed}
+use Rattle.rows.specs.declared.Shape.the-variants.{Lit, Num, One, Two, Skips}
+use Rattle.rows.specs.Rows.{At, sizeAt, shapeOf}
+use Rattle.rows.proofs.Laws.{Found, row-found, root, root-there, found-size}
+use Rattle.rows.proofs.Views.{OneView, TwoView, as-one, as-two}
+use Rattle.writing.specs.Writes.{Fits}
+use Rattle.writing.specs.Keeps.{Kept}
+use Rattle.writing.proofs.Trees.{fits-un, fits-left}
+use Rattle.writing.proofs.Keeps.{kept-done, kept-full, ready-fits}
+use borrow.Author.Needs.{needs}
+use Prim.Native.Nat.{ℕ, _<_}
+use borrow.Fn.Kinds.{In}
+use borrow.Fn.PlainCycle.{Measures, is, falls, and}
+use Rattle.lister.proofs.list.Reads as list
+use Rattle.lister.proofs.list.Kinds as list-kinds
+use Rattle.lister.proofs.+list.Lts-list as list-lts
+use Rattle.lister.proofs.finish.Reads as finish-reads
+use Rattle.rows.proofs.row_at.Reads as row-at-reads
+use Rattle.rows.proofs.shape_of.Reads as shape-of-reads
+use Rattle.rows.proofs.wide.Reads as wide-reads
+use Rattle.writing.proofs.keep.Reads as keep-reads
+use Rattle.writing.proofs.put_row.Reads as put-row-reads
+use Rattle.lister.proofs.+list.{statement}
+use Rattle.lister.proofs.+list.Tie.{close}
+
+abbrev μ-list : Measures 4 list-kinds.ps ℕ
+μ-list κs a = sizeAt (a .0 .now) (a .1 .1 .0)
+
+abbrev list-at : ℕ → In 4 list-kinds.ps
+list-at t = and 4 list-kinds.ps (is 4 list-kinds.ps μ-list t) list.Pre
+
+abbrev list-below : ℕ → In 4 list-kinds.ps
+list-below t = and 4 list-kinds.ps (falls 4 list-kinds.ps _<_ μ-list t) list.Pre
+
+abbrev calls-list : ℕ → list-lts.Claims
+calls-list t = (row-at-reads.Asked, row-at-reads.Learnt, shape-of-reads.Asked, shape-of-reads.Learnt, keep-reads.Asked, keep-reads.Learnt, list-below t, list.Post, put-row-reads.Asked, put-row-reads.Learnt, wide-reads.Asked, wide-reads.Learnt, finish-reads.Asked, finish-reads.Learnt)
+
+-- ---- what is known
+-- the row that was read, and what the shape of its kind says
+read : (t : ℕ) (m : list-lts.After-known-told (calls-list t) (list-at t) list.Post) → let k = m .before .kind .given .0 in let a = m .before .before .before .before .before .before .before .before .args in Found (a .rows .now) (a .root) (k .0) (k .1 .0) (k .1 .1 .0) (k .1 .1 .1 .0)
+read t m = row-found (sym (m .before .before .before .row-at .ensures) ∙ m .before .kind .given .1)
+
+is-one : (t : ℕ) (c : list-lts.After-enum-told5 (calls-list t) (list-at t) list.Post) → shapeOf (c .before .before .before .before .kind .given .0 .0) ≡ One
+is-one t c = sym (c .before .before .shape-of .ensures) ∙ c .enum-told5 .given .1
+
+is-two : (t : ℕ) (c : list-lts.After-enum-told7 (calls-list t) (list-at t) list.Post) → shapeOf (c .before .before .before .before .kind .given .0 .0) ≡ Two
+is-two t c = sym (c .before .before .shape-of .ensures) ∙ c .enum-told7 .given .1
+
+one-view : (t : ℕ) (c : list-lts.After-enum-told5 (calls-list t) (list-at t) list.Post) → let k = c .before .before .before .before .kind .given .0 in let s = c .before .before .before .before .before .before .before .before .before .before .before in OneView (s .args .rows .now) (s .args .root) (k .0) (k .1 .0) (k .1 .1 .0) (k .1 .1 .1 .0) (s .pre .1 .1 .0 .tree)
+one-view t c = as-one (read t (c .before .before .before)) (c .before .before .before .before .before .before .before .before .before .before .before .pre .1 .1 .0 .at) (is-one t c)
+
+two-view : (t : ℕ) (c : list-lts.After-enum-told7 (calls-list t) (list-at t) list.Post) → let k = c .before .before .before .before .kind .given .0 in let s = c .before .before .before .before .before .before .before .before .before .before .before in TwoView (s .args .rows .now) (s .args .root) (k .0) (k .1 .0) (k .1 .1 .0) (k .1 .1 .1 .0) (s .pre .1 .1 .0 .tree)
+two-view t c = as-two (read t (c .before .before .before)) (c .before .before .before .before .before .before .before .before .before .before .before .pre .1 .1 .0 .at) (is-two t c)
+
+-- the right child's rows
+right-size : (t : ℕ) (c : list-lts.After-wide (calls-list t) (list-at t) list.Post) {r : Expr Span} → At (c .before .before .before .before .before .before .before .before .before .before .before .before .before .before .before .before .args .rows .now) (c .before .before .before .before .before .before .before .before .before .before .before .before .before .before .before .before .args .root - 1) r → c .wide .result ≡ size r
+right-size t c a = c .wide .ensures ∙ found-size (row-found (sym (c .before .before .before .before .row-at2 .ensures) ∙ c .before .before .n .given .1)) a
+
+-- what the children's calls gave
+one-kept : (t : ℕ) (c : list-lts.After-known-told2 (calls-list t) (list-at t) list.Post) → let s = c .before .before .before .before .before .before .before .before .before .before .before .before .before .before .before .before .before .before .before .before .before in let d = c .before .before .before .before .before .before .before .list in Kept (c .before .q .given .0 .0) (s .args .p) (listed (resolve (s .args .text .now) (one-view t (c .before .before .before .before .before .before .before .before .before .before) .child))) (s .args .out .now) (d .last .1 .1 .1 .0) (s .args .lits .now) (d .last .1 .1 .1 .1 .0)
+one-kept t c = let v = one-view t (c .before .before .before .before .before .before .before .before .before .before) in let d = c .before .before .before .before .before .before .before .list in kept-done _ _ _ _ _ _ (c .before .q .given .1) (d .ensures (v .child) (v .at))
+
+left-kept : (t : ℕ) (c : list-lts.After-known-told4 (calls-list t) (list-at t) list.Post) → let s = c .before .before .before .before .before .before .before .before .before .before .before .before .before .before .before .before .before .before .before .before .before .before .before .before .before .before in let d = c .before .before .before .before .before .before .before .list2 in Kept (c .before .q2 .given .0 .0) (s .args .p) (listed (resolve (s .args .text .now) (two-view t (c .before .before .before .before .before .before .before .before .before .before .before .before .before .before .before) .left))) (s .args .out .now) (d .last .1 .1 .1 .0) (s .args .lits .now) (d .last .1 .1 .1 .1 .0)
+left-kept t c = let v = two-view t (c .before .before .before .before .before .before .before .before .before .before .before .before .before .before .before) in let d = c .before .before .before .before .before .before .before .list2 in kept-done _ _ _ _ _ _ (c .before .q2 .given .1) (d .ensures (v .left) (left-at v (right-size t (c .before .before .before .before .before .before .before .before .before .before) (v .atRight))))
+
+right-kept : (t : ℕ) (c : list-lts.After-known-told5 (calls-list t) (list-at t) list.Post) → let s = c .before .before .before .before .before .before .before .before .before .before .before .before .before .before .before .before .before .before .before .before .before .before .before .before .before .before .before .before .before .before .before .before .before .before .before .before in let d = c .before .before .before .before .before .before .before .before .before .before .before .before .before .before .before .before .before .list2 in let e = c .before .before .before .before .before .before .before .list3 in Kept (c .before .s .given .0 .0) (c .before .before .before .before .before .before .before .before .before .before .before .q2 .given .0 .0) (listed (resolve (s .args .text .now) (two-view t (c .before .before .before .before .before .before .before .before .before .before .before .before .before .before .before .before .before .before .before .before .before .before .before .before .before) .right))) (d .last .1 .1 .1 .0) (e .last .1 .1 .1 .0) (d .last .1 .1 .1 .1 .0) (e .last .1 .1 .1 .1 .0)
+right-kept t c = let v = two-view t (c .before .before .before .before .before .before .before .before .before .before .before .before .before .before .before .before .before .before .before .before .before .before .before .before .before) in let e = c .before .before .before .before .before .before .before .list3 in kept-done _ _ _ _ _ _ (c .before .s .given .1) (e .ensures (v .right) (v .atRight))
+
+-- ---- needs
+list-row-at-requires : (t : ℕ) → list-lts.Need-row-at-requires (calls-list t) (list-at t) list.Post
+list-row-at-requires t c κs = search needs
+
+list-enum-known-kind : (t : ℕ) → list-lts.Need-enum-known-kind (calls-list t) (list-at t) list.Post
+list-enum-known-kind t c = search needs
+
+list-enum-told : (t : ℕ) → list-lts.Need-enum-told (calls-list t) (list-at t) list.Post
+list-enum-told t c = search needs
+
+list-returns : (t : ℕ) → list-lts.Need-returns (calls-list t) (list-at t) list.Post
+list-returns t c = absurd (root-there (c .before .before .before .before .before .before .before .pre .1 .1 .0 .at) (sym (c .before .before .row-at .ensures) ∙ c .enum-told .given .1))
+
+list-shape-of-requires : (t : ℕ) → list-lts.Need-shape-of-requires (calls-list t) (list-at t) list.Post
+list-shape-of-requires t c κs = search needs
+
+list-enum-told-2 : (t : ℕ) → list-lts.Need-enum-told-2 (calls-list t) (list-at t) list.Post
+list-enum-told-2 t c = search needs
+
+list-keep-requires : (t : ℕ) → list-lts.Need-keep-requires (calls-list t) (list-at t) list.Post
+list-keep-requires t c κs = search needs
+
+list-enum-told-3 : (t : ℕ) → list-lts.Need-enum-told-3 (calls-list t) (list-at t) list.Post
+list-enum-told-3 t c = search needs
+
+list-keep-requires-2 : (t : ℕ) → list-lts.Need-keep-requires-2 (calls-list t) (list-at t) list.Post
+list-keep-requires-2 t c κs = search needs
+
+list-enum-told-4 : (t : ℕ) → list-lts.Need-enum-told-4 (calls-list t) (list-at t) list.Post
+list-enum-told-4 t c = search needs
+
+list-keep-requires-3 : (t : ℕ) → list-lts.Need-keep-requires-3 (calls-list t) (list-at t) list.Post
+list-keep-requires-3 t c κs = search needs
+
+list-enum-told-5 : (t : ℕ) → list-lts.Need-enum-told-5 (calls-list t) (list-at t) list.Post
+list-enum-told-5 t c = search needs
+
+list-sub-list : (t : ℕ) → list-lts.Need-sub-list (calls-list t) (list-at t) list.Post
+list-sub-list t c = let v = one-view t c in omega (arith, v .least, v .most)
+
+list-list-requires : (t : ℕ) → list-lts.Need-list-requires (calls-list t) (list-at t) list.Post
+list-list-requires t c κs = let s = c .before .before .before .before .before .before .before .before .before .before .before .before .before in let e = c .before .before in let v = one-view t e in
+    (omega (arith, s .pre .0, root (v .at) .rows, root (s .pre .1 .1 .0 .at) .rows, found-size (read t (c .before .before .before .before .before)) (s .pre .1 .1 .0 .at), v .rows), (s .pre .1 .0, (record { tree = v .child; at = v .at; fits = fits-un (rw (v .is) at (s .pre .1 .1 .0 .fits)) }, s .pre .1 .1 .1)))
+
+list-enum-known-q : (t : ℕ) → list-lts.Need-enum-known-q (calls-list t) (list-at t) list.Post
+list-enum-known-q t c = search needs
+
+list-enum-told-6 : (t : ℕ) → list-lts.Need-enum-told-6 (calls-list t) (list-at t) list.Post
+list-enum-told-6 t c = search needs
+
+list-same-length : (t : ℕ) → list-lts.Need-same-length (calls-list t) (list-at t) list.Post
+list-same-length t c = search needs
+
+list-same-length-2 : (t : ℕ) → list-lts.Need-same-length-2 (calls-list t) (list-at t) list.Post
+list-same-length-2 t c = search needs
+
+list-returns-2 : (t : ℕ) → list-lts.Need-returns-2 (calls-list t) (list-at t) list.Post
+list-returns-2 t c = let v = one-view t (c .before .before .before .before .before .before .before .before .before) in λ r a. kept-full _ _ _ _ _ _ (c .enum-told6 .given .1) (c .before .before .before .before .before .before .list .ensures (v .child) (v .at))
+
+list-put-row-requires : (t : ℕ) → list-lts.Need-put-row-requires (calls-list t) (list-at t) list.Post
+list-put-row-requires t c κs = search needs
+
+list-enum-told-7 : (t : ℕ) → list-lts.Need-enum-told-7 (calls-list t) (list-at t) list.Post
+list-enum-told-7 t c = search needs
+
+list-sub-right : (t : ℕ) → list-lts.Need-sub-right (calls-list t) (list-at t) list.Post
+list-sub-right t c = let v = two-view t c in omega (arith, v .leastLeft, v .most)
+
+list-row-at-requires-2 : (t : ℕ) → list-lts.Need-row-at-requires-2 (calls-list t) (list-at t) list.Post
+list-row-at-requires-2 t c κs = search needs
+
+list-enum-known-n : (t : ℕ) → list-lts.Need-enum-known-n (calls-list t) (list-at t) list.Post
+list-enum-known-n t c = search needs
+
+list-enum-told-8 : (t : ℕ) → list-lts.Need-enum-told-8 (calls-list t) (list-at t) list.Post
+list-enum-told-8 t c = search needs
+
+list-returns-3 : (t : ℕ) → list-lts.Need-returns-3 (calls-list t) (list-at t) list.Post
+list-returns-3 t c = absurd (root-there (two-view t (c .before .before .before) .atRight) (sym (c .before .before .row-at2 .ensures) ∙ c .enum-told8 .given .1))
+
+list-wide-requires : (t : ℕ) → list-lts.Need-wide-requires (calls-list t) (list-at t) list.Post
+list-wide-requires t c κs = search needs
+
+list-sub-left : (t : ℕ) → list-lts.Need-sub-left (calls-list t) (list-at t) list.Post
+list-sub-left t c = let v = two-view t (c .before .before .before .before .before) in omega (arith, right-size t c (v .atRight), v .leastLeft, v .most)
+
+list-list-requires-2 : (t : ℕ) → list-lts.Need-list-requires-2 (calls-list t) (list-at t) list.Post
+list-list-requires-2 t c κs = let s = c .before .before .before .before .before .before .before .before .before .before .before .before .before .before .before .before .before .before in let v = two-view t (c .before .before .before .before .before .before .before) in let l = left-at v (right-size t (c .before .before) (v .atRight)) in
+    (omega (arith, s .pre .0, root l .rows, root (s .pre .1 .1 .0 .at) .rows, found-size (read t (c .before .before .before .before .before .before .before .before .before .before)) (s .pre .1 .1 .0 .at), v .rows), (s .pre .1 .0, (record { tree = v .left; at = l; fits = fits-left (rw (v .is) at (s .pre .1 .1 .0 .fits)) }, s .pre .1 .1 .1)))
+
+list-enum-known-q-2 : (t : ℕ) → list-lts.Need-enum-known-q-2 (calls-list t) (list-at t) list.Post
+list-enum-known-q-2 t c = search needs
+
+list-enum-told-9 : (t : ℕ) → list-lts.Need-enum-told-9 (calls-list t) (list-at t) list.Post
+list-enum-told-9 t c = search needs
+
+list-same-length-3 : (t : ℕ) → list-lts.Need-same-length-3 (calls-list t) (list-at t) list.Post
+list-same-length-3 t c = search needs
+
+list-same-length-4 : (t : ℕ) → list-lts.Need-same-length-4 (calls-list t) (list-at t) list.Post
+list-same-length-4 t c = search needs
+
+list-returns-4 : (t : ℕ) → list-lts.Need-returns-4 (calls-list t) (list-at t) list.Post
+list-returns-4 t c = let v = two-view t (c .before .before .before .before .before .before .before .before .before .before .before .before .before .before) in λ r a. kept-full _ _ _ _ _ _ (c .enum-told9 .given .1) (c .before .before .before .before .before .before .list2 .ensures (v .left) (left-at v (right-size t (c .before .before .before .before .before .before .before .before .before) (v .atRight))))
+
+list-list-requires-3 : (t : ℕ) → list-lts.Need-list-requires-3 (calls-list t) (list-at t) list.Post
+list-list-requires-3 t c κs = let s = c .before .before .before .before .before .before .before .before .before .before .before .before .before .before .before .before .before .before .before .before .before .before .before .before .before .before .before .before in let v = two-view t (c .before .before .before .before .before .before .before .before .before .before .before .before .before .before .before .before .before) in let d = c .before .before .before .before .before .before .before .before .before .list2 in
+    (omega (arith, s .pre .0, root (v .atRight) .rows, root (s .pre .1 .1 .0 .at) .rows, found-size (read t (c .before .before .before .before .before .before .before .before .before .before .before .before .before .before .before .before .before .before .before .before)) (s .pre .1 .1 .0 .at), v .rows), (s .pre .1 .0, (record { tree = v .right; at = v .atRight; fits = two-fits _ v (left-kept t (c .before .before)) (d .kept .1 .1 .1 .0) (d .kept .1 .1 .1 .1 .0) (s .pre .1 .1 .0 .fits) }, record { words = omega (arith, d .kept .1 .1 .1 .0, s .pre .1 .1 .1 .words); bytes = omega (arith, d .kept .1 .1 .1 .1 .0, s .pre .1 .1 .1 .bytes) })))
+
+list-enum-known-s : (t : ℕ) → list-lts.Need-enum-known-s (calls-list t) (list-at t) list.Post
+list-enum-known-s t c = search needs
+
+list-enum-told-10 : (t : ℕ) → list-lts.Need-enum-told-10 (calls-list t) (list-at t) list.Post
+list-enum-told-10 t c = search needs
+
+list-same-length-5 : (t : ℕ) → list-lts.Need-same-length-5 (calls-list t) (list-at t) list.Post
+list-same-length-5 t c = search needs
+
+list-same-length-6 : (t : ℕ) → list-lts.Need-same-length-6 (calls-list t) (list-at t) list.Post
+list-same-length-6 t c = search needs
+
+list-returns-5 : (t : ℕ) → list-lts.Need-returns-5 (calls-list t) (list-at t) list.Post
+list-returns-5 t c = let v = two-view t (c .before .before .before .before .before .before .before .before .before .before .before .before .before .before .before .before .before .before .before .before .before .before .before .before) in λ r a. kept-full _ _ _ _ _ _ (c .enum-told10 .given .1) (c .before .before .before .before .before .before .list3 .ensures (v .right) (v .atRight))
+
+list-finish-requires : (t : ℕ) → list-lts.Need-finish-requires (calls-list t) (list-at t) list.Post
+list-finish-requires t c κs = let s = c .before .before .before .before .before .before .before .before .before .before .before .before .before .before .before .before .before .before .before .before .before .before .before .before .before .before .before .before .before .before .before .before .before .before .before .before .before .before in let v = two-view t (c .before .before .before .before .before .before .before .before .before .before .before .before .before .before .before .before .before .before .before .before .before .before .before .before .before .before .before) in let d = c .before .before .before .before .before .before .before .before .before .before .before .before .before .before .before .before .before .before .before .list2 in let e = c .before .before .before .before .before .before .before .before .before .list3 in
+    record { left = _; right = _; pair = two-pair _ v (left-kept t (c .before .before .before .before .before .before .before .before .before .before .before .before)) (d .kept .1 .1 .1 .0) (d .kept .1 .1 .1 .1 .0) (s .pre .1 .1 .0 .fits) (right-kept t (c .before .before)) (e .kept .1 .1 .1 .0) (e .kept .1 .1 .1 .1 .0); areas = record { words = omega (arith, e .kept .1 .1 .1 .0, d .kept .1 .1 .1 .0, s .pre .1 .1 .1 .words); bytes = omega (arith, e .kept .1 .1 .1 .1 .0, d .kept .1 .1 .1 .1 .0, s .pre .1 .1 .1 .bytes) } }
+
+list-same-length-7 : (t : ℕ) → list-lts.Need-same-length-7 (calls-list t) (list-at t) list.Post
+list-same-length-7 t c = search needs
+
+list-same-length-8 : (t : ℕ) → list-lts.Need-same-length-8 (calls-list t) (list-at t) list.Post
+list-same-length-8 t c = search needs
+
+list-returns-6 : (t : ℕ) → list-lts.Need-returns-6 (calls-list t) (list-at t) list.Post
+list-returns-6 t c = λ r a. rw (leaf-list (c .before .before .before .before .before .before .before .before .before .before .before .before .before .before .before .before .before .before .args .text .now) (read t (c .before .before .before .before .before .before .before .before .before .before)) a (sym (c .before .before .before .before .before .before .before .before .before .shape-of .ensures) ∙ c .before .before .before .before .before .before .before .enum-told2 .given .1) tt) (c .before .before .before .before .keep .ensures r a)
+
+list-same-length-9 : (t : ℕ) → list-lts.Need-same-length-9 (calls-list t) (list-at t) list.Post
+list-same-length-9 t c = search needs
+
+list-same-length-10 : (t : ℕ) → list-lts.Need-same-length-10 (calls-list t) (list-at t) list.Post
+list-same-length-10 t c = search needs
+
+list-returns-7 : (t : ℕ) → list-lts.Need-returns-7 (calls-list t) (list-at t) list.Post
+list-returns-7 t c = λ r a. rw (leaf-list (c .before .before .before .before .before .before .before .before .before .before .before .before .before .before .before .before .before .before .args .text .now) (read t (c .before .before .before .before .before .before .before .before .before .before)) a (sym (c .before .before .before .before .before .before .before .before .before .shape-of .ensures) ∙ c .before .before .before .before .before .before .before .enum-told3 .given .1) tt) (c .before .before .before .before .keep2 .ensures r a)
+
+list-same-length-11 : (t : ℕ) → list-lts.Need-same-length-11 (calls-list t) (list-at t) list.Post
+list-same-length-11 t c = search needs
+
+list-same-length-12 : (t : ℕ) → list-lts.Need-same-length-12 (calls-list t) (list-at t) list.Post
+list-same-length-12 t c = search needs
+
+list-returns-8 : (t : ℕ) → list-lts.Need-returns-8 (calls-list t) (list-at t) list.Post
+list-returns-8 t c = λ r a. rw (leaf-list (c .before .before .before .before .before .before .before .before .before .before .before .before .before .before .before .before .before .before .args .text .now) (read t (c .before .before .before .before .before .before .before .before .before .before)) a (sym (c .before .before .before .before .before .before .before .before .before .shape-of .ensures) ∙ c .before .before .before .before .before .before .before .enum-told4 .given .1) tt) (c .before .before .before .before .keep3 .ensures r a)
+
+list-same-length-13 : (t : ℕ) → list-lts.Need-same-length-13 (calls-list t) (list-at t) list.Post
+list-same-length-13 t c = search needs
+
+list-same-length-14 : (t : ℕ) → list-lts.Need-same-length-14 (calls-list t) (list-at t) list.Post
+list-same-length-14 t c = search needs
+
+list-returns-9 : (t : ℕ) → list-lts.Need-returns-9 (calls-list t) (list-at t) list.Post
+list-returns-9 t c = let s = c .before .before .before .before .before .before .before .before .before .before .before .before .before .before .before .before .before .before .before .before .before .before .before .before .before in let d = c .before .before .before .before .before .before .before .before .before .before .before .list in
+    λ r a. let v = as-one (read t (c .before .before .before .before .before .before .before .before .before .before .before .before .before .before .before .before .before)) a (is-one t (c .before .before .before .before .before .before .before .before .before .before .before .before .before .before)) in
+    let w = kept-done _ _ _ _ _ _ (c .before .before .before .before .before .q .given .1) (d .ensures (v .child) (v .at)) in
+    list-one _ v (c .before .before .put-row .result) (c .before .before .put-row .last .0) w (one-room _ v w (d .kept .1 .1 .1 .0) (ready-fits (s .pre .1 .1 .0) r a)) (c .before .before .put-row .ensures)
+
+list-same-length-15 : (t : ℕ) → list-lts.Need-same-length-15 (calls-list t) (list-at t) list.Post
+list-same-length-15 t c = search needs
+
+list-same-length-16 : (t : ℕ) → list-lts.Need-same-length-16 (calls-list t) (list-at t) list.Post
+list-same-length-16 t c = search needs
+
+list-returns-10 : (t : ℕ) → list-lts.Need-returns-10 (calls-list t) (list-at t) list.Post
+list-returns-10 t c = let s = c .before .before .before .before .before .before .before .before .before .before .before .before .before .before .before .before .before .before .before .before .before .before .before .before .before .before .before .before .before .before .before .before .before .before .before .before .before .before .before .before .before in let d = c .before .before .before .before .before .before .before .before .before .before .before .before .before .before .before .before .before .before .before .before .before .before .list2 in let e = c .before .before .before .before .before .before .before .before .before .before .before .before .list3 in
+    λ r a. let v = as-two (read t (c .before .before .before .before .before .before .before .before .before .before .before .before .before .before .before .before .before .before .before .before .before .before .before .before .before .before .before .before .before .before .before .before .before)) a (is-two t (c .before .before .before .before .before .before .before .before .before .before .before .before .before .before .before .before .before .before .before .before .before .before .before .before .before .before .before .before .before .before)) in
+    let w = kept-done _ _ _ _ _ _ (c .before .before .before .before .before .before .before .before .before .before .before .before .before .before .before .before .q2 .given .1) (d .ensures (v .left) (left-at v (right-size t (c .before .before .before .before .before .before .before .before .before .before .before .before .before .before .before .before .before .before .before .before .before .before .before .before .before) (v .atRight)))) in
+    let u = kept-done _ _ _ _ _ _ (c .before .before .before .before .before .before .s .given .1) (e .ensures (v .right) (v .atRight)) in
+    list-two _ v w (d .kept .1 .1 .1 .0) (d .kept .1 .1 .1 .1 .0) (ready-fits (s .pre .1 .1 .0) r a) u (e .kept .1 .1 .1 .0) (e .kept .1 .1 .1 .1 .0) (c .before .before .finish .result) (c .before .before .finish .last .0) (c .before .before .finish .ensures)
+
+pub +list-spec : {M : Type 1} → statement M
++list-spec = close μ-list λ t. list-lts.spec (calls-list t)
+    (list-at t)
+    list.Post
+    (list-row-at-requires t)
+    (list-enum-known-kind t)
+    (list-enum-told t)
+    (list-returns t)
+    (list-shape-of-requires t)
+    (list-enum-told-2 t)
+    (list-keep-requires t)
+    (list-enum-told-3 t)
+    (list-keep-requires-2 t)
+    (list-enum-told-4 t)
+    (list-keep-requires-3 t)
+    (list-enum-told-5 t)
+    (list-sub-list t)
+    (list-list-requires t)
+    (list-enum-known-q t)
+    (list-enum-told-6 t)
+    (list-same-length t)
+    (list-same-length-2 t)
+    (list-returns-2 t)
+    (list-put-row-requires t)
+    (list-enum-told-7 t)
+    (list-sub-right t)
+    (list-row-at-requires-2 t)
+    (list-enum-known-n t)
+    (list-enum-told-8 t)
+    (list-returns-3 t)
+    (list-wide-requires t)
+    (list-sub-left t)
+    (list-list-requires-2 t)
+    (list-enum-known-q-2 t)
+    (list-enum-told-9 t)
+    (list-same-length-3 t)
+    (list-same-length-4 t)
+    (list-returns-4 t)
+    (list-list-requires-3 t)
+    (list-enum-known-s t)
+    (list-enum-told-10 t)
+    (list-same-length-5 t)
+    (list-same-length-6 t)
+    (list-returns-5 t)
+    (list-finish-requires t)
+    (list-same-length-7 t)
+    (list-same-length-8 t)
+    (list-returns-6 t)
+    (list-same-length-9 t)
+    (list-same-length-10 t)
+    (list-returns-7 t)
+    (list-same-length-11 t)
+    (list-same-length-12 t)
+    (list-returns-8 t)
+    (list-same-length-13 t)
+    (list-same-length-14 t)
+    (list-returns-9 t)
+    (list-same-length-15 t)
+    (list-same-length-16 t)
+    (list-returns-10 t)

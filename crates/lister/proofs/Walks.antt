@@ -1,0 +1,116 @@
+-- A subtree that was read is listed by what its children's calls answer. Assumes nothing.
+use mathlib.Core.Path.{_≡_, refl, sym, ap, subst, _∙_}
+use mathlib.Core.List.{List, _++_, append-assoc}
+use Prim.Native.Nat.{ℕ, _+_, _-_, _*_, _/_, _≤_, _<_}
+use native.Mathlib.Omega.{arith}
+use lib.ListN.{length, take, length-append}
+use lib.Seq.{length-take-le}
+use Rattle.grammar.specs.Basic.{Bytes}
+use Rattle.grammar.specs.Tree.{E, Expr, Un, Bin, lit, fixed, skip, un, bin, unHead, binKind, size}
+use Rattle.grammar.specs.Rows.{Span, flat}
+use Rattle.grammar.specs.Text.{resolve, textOf, packed}
+use Rattle.grammar.specs.Steps.{list, list?, orSame}
+use Rattle.rows.specs.declared.Shape.{Shape}
+use Rattle.rows.specs.declared.Shape.the-variants.{Lit, Num, One, Two, Skips}
+use Rattle.rows.specs.Rows.{At, shapeOf}
+use Rattle.rows.proofs.Laws.{Found}
+use Rattle.rows.proofs.Views.{OneView, TwoView, shapeIn, found-shape}
+use Rattle.rows.proofs.Cells.{size-resolve}
+use Rattle.writing.specs.declared.Place.{Place}
+use Rattle.writing.specs.declared.Wrote.{Wrote}
+use Rattle.writing.specs.declared.Wrote.the-variants.{Done, Full}
+use Rattle.writing.specs.Writes.{Fits, RowAnswer}
+use Rattle.writing.specs.Keeps.{Kept, KeptAnswer}
+use Rattle.writing.proofs.Keeps.{kept-done, kept-un, row-room, right-fits}
+use Rattle.lister.specs.Mends.{Pair}
+use Rattle.lister.proofs.Lists.{list-un, list-bin, list-size, list-text}
+use Rattle.lister.proofs.Pairs.{front-of}
+
+-- ---- leaves are as they were
+
+abbrev pub Leaf : Shape → Type 0
+Leaf Lit = Unit {0}
+Leaf Num = Unit {0}
+Leaf Skips = Unit {0}
+Leaf One = ⊥
+Leaf Two = ⊥
+
+list-leaf : (t : Bytes) (r : Expr Span) → Leaf (shapeIn r) → list (resolve t r) ≡ resolve t r
+unfolding list list?
+list-leaf t (lit k s) h = refl
+list-leaf t (fixed f) h = refl
+list-leaf t (skip ss) h = refl
+list-leaf t (un u e) h = absurd h
+list-leaf t (bin b l r) h = absurd h
+
+pub leaf-list : (t : Bytes) {w : List ℕ} {i k x y n : ℕ} {r : Expr Span} {s : Shape} → Found w i k x y n → At w i r → shapeOf k ≡ s → Leaf s → list (resolve t r) ≡ resolve t r
+leaf-list t {r} f a h l = list-leaf t r (subst Leaf (sym (found-shape f a h)) l)
+
+-- ---- one child
+
+module _ (t : Bytes) {w : List ℕ} {i k x y n : ℕ} {r : Expr Span} (v : OneView w i k x y n r) where
+  -- what the child's call left room for
+  pub one-room : {q p : Place} {o o₁ b b₁ : List ℕ} → Kept q p (list (resolve t (v .child))) o o₁ b b₁ → length o₁ ≡ length o → Fits p (resolve t r) o b → q .rows < length o₁ / 4
+  one-room c l f = row-room c (resolve t (v .child)) (omega (arith, list-size (resolve t (v .child)))) l (rw (v .is) at f)
+
+  pub list-one : (a : Wrote) {q p : Place} {o o₁ b b₁ : List ℕ} (o₂ : List ℕ) → Kept q p (list (resolve t (v .child))) o o₁ b b₁ → q .rows < length o₁ / 4
+      → RowAnswer a q (k, x, y) n o₁ o₂ → KeptAnswer a p (list (resolve t r)) o o₂ b b₁
+  list-one Full o₂ c h g = absurd (g h)
+  list-one (Done a) o₂ c h g =
+      rw (v .is, list-un) (kept-un c (v .op) n (v .rows ∙ omega (arith, list-size (resolve t (v .child)), size-resolve t (v .child))) (rw (v .head) at g))
+
+-- ---- two children
+
+-- the two trees as they stand after both calls
+module _ {p q s : Place} {e f : E} {o o₁ o₂ b b₁ b₂ : List ℕ} (w : Kept q p e o o₁ b b₁) (v : Kept s q f o₁ o₂ b₁ b₂) (ro : p .rows ≤ length o / 4) (rb : p .text ≤ length b) where
+  both-words : take (s .rows * 4) o₂ ≡ take (p .rows * 4) o ++ (flat (packed (p .text) e) ++ flat (packed (q .text) f))
+  both-words = v .words ∙ rw (w .words) (append-assoc (take (p .rows * 4) o) (flat (packed (p .text) e)) (flat (packed (q .text) f)))
+
+  both-bytes : take (s .text) b₂ ≡ take (p .text) b ++ (textOf e ++ textOf f)
+  both-bytes = v .bytes ∙ rw (w .bytes) (append-assoc (take (p .text) b) (textOf e) (textOf f))
+
+  front-rows : take (p .rows * 4) o₂ ≡ take (p .rows * 4) o
+  front-rows = front-of o₂ (take (p .rows * 4) o) _ (p .rows * 4) (s .rows * 4) (omega (arith, w .rows, v .rows)) both-words (length-take-le (p .rows * 4) o (omega arith))
+
+  front-text : take (p .text) b₂ ≡ take (p .text) b
+  front-text = front-of b₂ (take (p .text) b) _ (p .text) (s .text) (omega (arith, w .text, v .text)) both-bytes (length-take-le (p .text) b rb)
+
+  pub pair-of : s .rows < length o₂ / 4 → s .text ≤ length b₂ → Pair p q s e f o₂ b₂
+  pair-of h k = record {
+    rows₁ = w .rows;
+    text₁ = w .text;
+    rows₂ = v .rows;
+    text₂ = v .text;
+    words = rw front-rows both-words;
+    bytes = rw front-text both-bytes;
+    room = h;
+    end = k;
+  }
+
+  -- what was there before is what was there at first
+  pub kept-before : (a : Wrote) (g : E) (o₃ : List ℕ) → KeptAnswer a p g o₂ o₃ b₂ b₂ → KeptAnswer a p g o o₃ b b₂
+  kept-before Full g o₃ h = h
+  kept-before (Done a) g o₃ h = record { rows = h .rows; text = h .text; words = h .words ∙ rw front-rows; bytes = h .bytes ∙ rw front-text }
+
+-- the left child's place, found by the right one's size
+pub left-at : {w : List ℕ} {i k x y n : ℕ} {r : Expr Span} (v : TwoView w i k x y n r) {m : ℕ} → m ≡ size (v .right) → At w (i - 1 - m) (v .left)
+left-at v h = rw h (v .atLeft)
+
+module _ (t : Bytes) {w : List ℕ} {i k x y n : ℕ} {r : Expr Span} (v : TwoView w i k x y n r) where
+  module _ {p q : Place} {o o₁ b b₁ : List ℕ} (c : Kept q p (list (resolve t (v .left))) o o₁ b b₁) (lo : length o₁ ≡ length o) (lb : length b₁ ≡ length b) (f : Fits p (resolve t r) o b) where
+    pub two-fits : Fits q (resolve t (v .right)) o₁ b₁
+    two-fits = right-fits c (resolve t (v .left)) (omega (arith, list-size (resolve t (v .left)))) lo (omega (arith, ap length (list-text (resolve t (v .left))))) lb (rw (v .is) at f)
+
+    module _ {s : Place} {o₂ b₂ : List ℕ} (d : Kept s q (list (resolve t (v .right))) o₁ o₂ b₁ b₂) (lo₂ : length o₂ ≡ length o₁) (lb₂ : length b₂ ≡ length b₁) where
+      pub two-pair : Pair p q s (list (resolve t (v .left))) (list (resolve t (v .right))) o₂ b₂
+      two-pair =
+          let g : Fits p (bin (v .op) (resolve t (v .left)) (resolve t (v .right))) o b = rw (v .is) at f in
+          let z = two-fits in
+          pair-of c d (omega (arith, g .rows)) (omega (arith, g .text))
+          (omega (arith, g .rows, c .rows, d .rows, list-size (resolve t (v .left)), list-size (resolve t (v .right))))
+          (omega (arith, z .text, d .text, ap length (list-text (resolve t (v .right)))))
+
+      pub list-two : (a : Wrote) (o₃ : List ℕ) → ((e : Bin) (g h : E) → k ≡ binKind e → Pair p q s g h o₂ b₂ → KeptAnswer a p (orSame list? (bin e g h)) o₂ o₃ b₂ b₂) → KeptAnswer a p (list (resolve t r)) o o₃ b b₂
+      list-two a o₃ h =
+          let g : Fits p (bin (v .op) (resolve t (v .left)) (resolve t (v .right))) o b = rw (v .is) at f in
+          rw (v .is, list-bin) (kept-before c d (omega (arith, g .rows)) (omega (arith, g .text)) a _ o₃ (h (v .op) _ _ (v .kind) two-pair))

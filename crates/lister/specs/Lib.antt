@@ -1,0 +1,3 @@
+-- What list looks for, and what it mends.
+pub mod Loops
+pub mod Mends

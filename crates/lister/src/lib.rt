@@ -1,0 +1,154 @@
+// List, over a whole subtree: (a~b)* ~ a becomes a ~ (b~a)*.
+ghost use mathlib.Core.Path.{_≡_};
+ghost use Prim.Native.Nat.{ℕ, _+_, _-_, _*_, _/_, _^_, _≤_, _<_};
+ghost use lib.ListN.{length, take, drop};
+ghost use Rattle.grammar.specs.Tree.{Expr, E, Bin, bin, binKind};
+ghost use Rattle.grammar.specs.Rows.{Span};
+ghost use Rattle.grammar.specs.Text.{resolve};
+ghost use Rattle.grammar.specs.Steps.{orSame, list, list?};
+ghost use Rattle.rows.specs.Rows.{Tells, Inside, At, StandsIn};
+ghost use Rattle.writing.specs.Writes.{stored, Areas};
+ghost use Rattle.writing.specs.Keeps.{KeptAnswer, Ready};
+ghost use Rattle.lister.specs.Loops.{Loops};
+ghost use Rattle.lister.specs.Mends.{Pair, Pairs, Movable, MendedAnswer};
+use rows::Lookup;
+use rows::Shape;
+use writing::Place;
+use writing::Wrote;
+
+// Copies n words down, from `from` to `to`; the two runs may overlap.
+pub fn move_down(out: &mut [u32], to: usize, from: usize, n: usize)
+    requires { ⌜ (to ≤ from) × (from + n ≤ length (now out)) ⌝ }
+    ensures { λ _. ⌜ now (out .exit) ≡ stored (now (out .entry)) to (take n (drop from (now (out .entry)))) ⌝ }
+{
+    let mut i = 0;
+    while i < n {
+        out[to + i] = out[from + i];
+        i += 1;
+    }
+}
+
+// Moves the rows from `from` to s up past the two rows before them, which come after them anew, and ends a Seq of m rows.
+pub fn mend(out: &mut [u32], from: usize, s: Place, n: u32, m: u32) -> Wrote
+    requires { ⌜ Movable from (s .rows) (now out) ⌝ }
+    requires { ⌜ n + 1 < 2 ^ 32 ⌝ }
+    ensures { λ a. ⌜ MendedAnswer a s from n m (now (out .entry)) (now (out .exit)) ⌝ }
+{
+    let end = s.rows;
+    move_down(out, (from - 2) * 4, from * 4, (end - from) * 4);
+    writing::set_row(out, end - 2, 8, 0, 0, n);
+    writing::set_row(out, end - 1, 11, 0, 0, n + 1);
+    writing::put_row(out, s, 8, 0, 0, m)
+}
+
+// Whether the subtrees of rows i and j are (a~b)* and a.
+pub fn loops(rows: &[u32], text: &[u8], i: usize, j: usize) -> bool
+    requires { ⌜ StandsIn (now rows) i (length (now text)) ⌝ }
+    requires { ⌜ StandsIn (now rows) j (length (now text)) ⌝ }
+    ensures { λ b. ⌜ ((l r : Expr Span) → At (now (rows .entry)) i l → At (now (rows .entry)) j r → Tells b (Loops (resolve (now (text .entry)) l) (resolve (now (text .entry)) r))) ⌝ }
+{
+    let Lookup::Row {
+        kind: k,
+        x: _,
+        y: _,
+        size: _,
+    } = rows::row_at(rows, i)
+    else {
+        return false;
+    };
+    if k != 11 {
+        return false;
+    }
+    let body = i - 1;
+    let Lookup::Row {
+        kind: l,
+        x: _,
+        y: _,
+        size: _,
+    } = rows::row_at(rows, body)
+    else {
+        return false;
+    };
+    if l != 8 {
+        return false;
+    }
+    let right = body - 1;
+    let Lookup::Row {
+        kind: _,
+        x: _,
+        y: _,
+        size: n,
+    } = rows::row_at(rows, right)
+    else {
+        return false;
+    };
+    rows::same_tree(rows, text, right - rows::wide(n), rows, text, j)
+}
+
+// Ends a node of two children that stand from p to q and from q to s.
+pub fn finish(out: &mut [u32], lits: &[u8], p: Place, q: Place, s: Place, kind: u32) -> Wrote
+    requires { ⌜ Pairs p q s (now out) (now lits) ⌝ }
+    ensures { λ a. ⌜ ((b : Bin) (e f : E) → kind ≡ binKind b → Pair p q s e f (now (out .entry)) (now (lits .entry)) → KeptAnswer a p (orSame list? (bin b e f)) (now (out .entry)) (now (out .exit)) (now (lits .entry)) (now (lits .entry))) ⌝ }
+{
+    let from = q.rows;
+    let end = s.rows;
+    let size = (end - p.rows + 1) as u32;
+    if kind != 8 {
+        return writing::put_row(out, s, kind, 0, 0, size);
+    }
+    if loops(out, lits, from - 1, end - 1) {
+        // the loop's two rows count what they did: a is as large as the tree that follows
+        return mend(out, from, s, (from - p.rows - 1) as u32, size);
+    }
+    writing::put_row(out, s, 8, 0, 0, size)
+}
+
+// Writes the listed subtree of row `root` at p, its literals packed.
+pub fn list(
+    rows: &[u32],
+    text: &[u8],
+    root: usize,
+    out: &mut [u32],
+    lits: &mut [u8],
+    p: Place,
+) -> Wrote
+    requires { ⌜ Inside (now rows) (length (now text)) ⌝ }
+    requires { ⌜ Ready (now rows) (now text) root p (now out) (now lits) ⌝ }
+    requires { ⌜ Areas (now out) (now lits) ⌝ }
+    ensures { λ a. ⌜ ((r : Expr Span) → At (now (rows .entry)) root r → KeptAnswer a p (list (resolve (now (text .entry)) r)) (now (out .entry)) (now (out .exit)) (now (lits .entry)) (now (lits .exit))) ⌝ }
+{
+    let Lookup::Row { kind, x, y, size } = rows::row_at(rows, root) else {
+        return Wrote::Full;
+    };
+    match rows::shape_of(kind) {
+        Shape::Lit => writing::keep(rows, text, root, out, lits, p),
+        Shape::Num => writing::keep(rows, text, root, out, lits, p),
+        Shape::Skips => writing::keep(rows, text, root, out, lits, p),
+        Shape::One => {
+            let Wrote::Done(q) = list(rows, text, root - 1, out, lits, p) else {
+                return Wrote::Full;
+            };
+            writing::put_row(out, q, kind, x, y, size)
+        }
+        Shape::Two => {
+            let right = root - 1;
+            let Lookup::Row {
+                kind: _,
+                x: _,
+                y: _,
+                size: n,
+            } = rows::row_at(rows, right)
+            else {
+                return Wrote::Full;
+            };
+            let left = right - rows::wide(n);
+            let Wrote::Done(q) = list(rows, text, left, out, lits, p) else {
+                return Wrote::Full;
+            };
+            let Wrote::Done(s) = list(rows, text, right, out, lits, q) else {
+                return Wrote::Full;
+            };
+            finish(out, lits, p, q, s, kind)
+        }
+    }
+}
