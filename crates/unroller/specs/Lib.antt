@@ -1,0 +1,3 @@
+-- What unrolling makes and how it is laid out.
+pub mod Items
+pub mod Copies

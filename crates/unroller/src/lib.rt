@@ -1,0 +1,338 @@
+// Unroll: a counted repeat becomes its items, nested to the right.
+ghost use mathlib.Core.Path.{_≡_};
+ghost use mathlib.Core.List.{List, _∷_};
+ghost use Prim.Native.Nat.{ℕ, _+_, _-_, _*_, _/_, _^_, _≤_, _<_};
+ghost use lib.ListN.{length, replicate};
+ghost use Rattle.grammar.specs.Tree.{Un, unHead, Expr, E};
+ghost use Rattle.grammar.specs.Rows.{Span};
+ghost use Rattle.grammar.specs.Steps.{nest, unrolled, unroll};
+ghost use Rattle.grammar.specs.Text.{bytesAt, resolve};
+ghost use Rattle.writing.specs.Writes.{stored, Room, RowPut, Written, Answer};
+ghost use Rattle.rows.specs.Rows.{Tells, Inside, At};
+ghost use Rattle.unroller.specs.declared.Item.the-variants.{Once};
+ghost use Rattle.unroller.specs.Items.{Counted, itemOf, itemsOf, countOf, items, itemsFor, IsRepeat, Holds};
+ghost use Rattle.unroller.specs.Copies.{movedRow, moved, Movable, Source, Copyable, Repeatable, Finishable, Layable, Spreadable, Headed, Laid};
+use rows::Lookup;
+use rows::Shape;
+use writing::Place;
+use writing::Wrote;
+
+// An item of an unrolled repeat of e: e, e? or e*.
+pub enum Item {
+    Once,
+    Maybe,
+    Many,
+}
+
+// How often an unrolled repeat has each item, in this order: e, e?, e*.
+pub struct Items {
+    pub plain: usize,
+    pub opts: usize,
+    pub reps: usize,
+}
+
+// An item, and how often each item follows it.
+pub struct Split {
+    pub item: Item,
+    pub rest: Items,
+}
+
+fn counts(plain: usize, opts: usize, reps: usize) -> Items
+    ensures { λ r. ⌜ r ≡ items plain opts reps ⌝ }
+{
+    Items { plain, opts, reps }
+}
+
+// How often a repeat has each item, by its row.
+fn items_for(kind: u32, x: u32, y: u32) -> Items
+    ensures { λ r. ⌜ r ≡ itemsFor kind x y ⌝ }
+{
+    if kind == 12 {
+        return counts(1, 0, 1);
+    }
+    let n = x as usize;
+    if kind == 13 {
+        return counts(n, 0, 0);
+    }
+    if kind == 14 {
+        return counts(n, 0, 1);
+    }
+    if kind == 15 {
+        return counts(0, n, 0);
+    }
+    let m = y as usize;
+    if n < m {
+        counts(n, m - n, 0)
+    } else {
+        // a minimum above the maximum counts as the maximum
+        counts(m, 0, 0)
+    }
+}
+
+// The first item, and the others.
+fn first_of(n: Items) -> Split
+    requires { ⌜ 1 ≤ countOf n ⌝ }
+    ensures { λ r. ⌜ ((e : E) → itemsOf n e ≡ itemOf (r .item) e ∷ itemsOf (r .rest) e) ⌝ }
+{
+    let plain = n.plain;
+    let opts = n.opts;
+    let reps = n.reps;
+    if 0 < plain {
+        let rest = counts(plain - 1, opts, reps);
+        return Split {
+            item: Item::Once,
+            rest,
+        };
+    }
+    if 0 < opts {
+        let rest = counts(0, opts - 1, reps);
+        return Split {
+            item: Item::Maybe,
+            rest,
+        };
+    }
+    let rest = counts(0, 0, reps - 1);
+    Split {
+        item: Item::Many,
+        rest,
+    }
+}
+
+// Whether so many rows and bytes hold the items of a tree with s rows and b bytes, and the Seq rows between them.
+fn hold(rows: usize, text: usize, s: usize, b: usize, n: Items) -> bool
+    requires { ⌜ (rows < 2 ^ 32) × (s < 2 ^ 31) × (b < 2 ^ 32) × (countOf n ≤ 2 ^ 32) ⌝ }
+    ensures { λ r. ⌜ Tells r (Holds rows text s b n) ⌝ }
+{
+    let marked = n.opts + n.reps;
+    let all = n.plain + marked;
+    if text < all * b {
+        return false;
+    }
+    n.plain * (s + 1) + marked * (s + 2) <= rows + 1
+}
+
+// Copies n bytes of the text from x to `at`, further on in it.
+fn copy_on(lits: &mut [u8], x: usize, n: usize, at: usize)
+    requires { ⌜ (x + n ≤ at) × (at + n ≤ length (now lits)) ⌝ }
+    ensures { λ _. ⌜ now (lits .exit) ≡ stored (now (lits .entry)) at (bytesAt (now (lits .entry)) (x, n)) ⌝ }
+{
+    let mut i = 0;
+    while i < n {
+        lits[at + i] = lits[x + i];
+        i += 1;
+    }
+}
+
+// Copies row i to row j; an offset moves by d.
+fn move_row(out: &mut [u32], i: usize, j: usize, d: u32)
+    requires { ⌜ (i < length (now out) / 4) × (j < length (now out) / 4) ⌝ }
+    requires { ⌜ Movable d (now out) i ⌝ }
+    ensures { λ _. ⌜ now (out .exit) ≡ stored (now (out .entry)) (j * 4) (movedRow d (now (out .entry)) i) ⌝ }
+{
+    let Lookup::Row { kind, x, y, size } = rows::row_at(out, i) else {
+        return;
+    };
+    if let Shape::Lit = rows::shape_of(kind) {
+        writing::set_row(out, j, kind, x + d, y, size);
+    } else {
+        writing::set_row(out, j, kind, x, y, size);
+    }
+}
+
+// Copies n rows from row i to row j, further on; offsets move by d.
+fn move_rows(out: &mut [u32], i: usize, n: usize, j: usize, d: u32)
+    requires { ⌜ (i + n ≤ j) × (j + n ≤ length (now out) / 4) ⌝ }
+    requires { ⌜ ((k : ℕ) → k < n → Movable d (now out) (i + k)) ⌝ }
+    ensures { λ _. ⌜ now (out .exit) ≡ stored (now (out .entry)) (j * 4) (moved d (now (out .entry)) i n) ⌝ }
+{
+    let mut k = 0;
+    while k < n {
+        move_row(out, i + k, j + k, d);
+        k += 1;
+    }
+}
+
+// Writes a copy of the tree that stands from p to q, at `at`.
+fn again(out: &mut [u32], lits: &mut [u8], p: Place, q: Place, at: Place) -> Place
+    requires { ⌜ Copyable p q at Once (now out) (now lits) ⌝ }
+    ensures { λ a. ⌜ ((e : E) → Source p q e (now (out .entry)) (now (lits .entry)) → Written a at e (now (out .entry)) (now (out .exit)) (now (lits .entry)) (now (lits .exit))) ⌝ }
+{
+    let i = p.rows;
+    let n = q.rows - i;
+    let x = p.text;
+    let m = q.text - x;
+    let j = at.rows;
+    let y = at.text;
+    move_rows(out, i, n, j, (y - x) as u32);
+    copy_on(lits, x, m, y);
+    Place {
+        rows: j + n,
+        text: y + m,
+    }
+}
+
+// Writes the row of a kind over the tree that stands from p to q.
+fn over(out: &mut [u32], p: Place, q: Place, kind: u32) -> Place
+    requires { ⌜ (p .rows ≤ q .rows) × (q .rows < length (now out) / 4) × (length (now out) < 2 ^ 32) ⌝ }
+    ensures { λ a. ⌜ RowPut a q (kind, 0, 0) (q .rows - p .rows + 1) (now (out .entry)) (now (out .exit)) ⌝ }
+{
+    let at = q.rows;
+    let size = at - p.rows + 1;
+    writing::set_row(out, at, kind, 0, 0, size as u32);
+    Place {
+        rows: at + 1,
+        text: q.text,
+    }
+}
+
+// Makes an item of the tree that stands from p to q.
+fn finish(out: &mut [u32], p: Place, q: Place, item: Item) -> Place
+    requires { ⌜ Finishable p q item (now out) ⌝ }
+    ensures { λ a. ⌜ ((e : E) (o t u : List ℕ) → Written q p e o (now (out .entry)) t u → Written a p (itemOf item e) o (now (out .exit)) t u) ⌝ }
+{
+    match item {
+        Item::Once => q,
+        Item::Maybe => over(out, p, q, 10),
+        Item::Many => over(out, p, q, 11),
+    }
+}
+
+// Writes an item of the tree that stands from p to q, at `at`.
+fn next(out: &mut [u32], lits: &mut [u8], p: Place, q: Place, at: Place, item: Item) -> Place
+    requires { ⌜ Copyable p q at item (now out) (now lits) ⌝ }
+    ensures { λ a. ⌜ ((e : E) → Source p q e (now (out .entry)) (now (lits .entry)) → Written a at (itemOf item e) (now (out .entry)) (now (out .exit)) (now (lits .entry)) (now (lits .exit))) ⌝ }
+{
+    let s = again(out, lits, p, q, at);
+    finish(out, at, s, item)
+}
+
+// Writes n items of the tree that stands from p to q, from `at` on.
+fn repeat(
+    out: &mut [u32],
+    lits: &mut [u8],
+    p: Place,
+    q: Place,
+    at: Place,
+    n: usize,
+    item: Item,
+) -> Place
+    requires { ⌜ Repeatable p q at n item (now out) (now lits) ⌝ }
+    ensures { λ a. ⌜ ((e : E) → Source p q e (now (out .entry)) (now (lits .entry)) → Laid a at (replicate n (itemOf item e)) (now (out .entry)) (now (out .exit)) (now (lits .entry)) (now (lits .exit))) ⌝ }
+{
+    let mut s = at;
+    let mut i = 0;
+    while i < n {
+        s = next(out, lits, p, q, s, item);
+        i += 1;
+    }
+    s
+}
+
+// Writes the items of a repeat of the tree that stands from p to q, one after another from p on.
+fn lay(out: &mut [u32], lits: &mut [u8], p: Place, q: Place, n: Items) -> Place
+    requires { ⌜ Layable p q n (now out) (now lits) ⌝ }
+    ensures { λ a. ⌜ ((e : E) → Source p q e (now (out .entry)) (now (lits .entry)) → Laid a p (itemsOf n e) (now (out .entry)) (now (out .exit)) (now (lits .entry)) (now (lits .exit))) ⌝ }
+{
+    let f = first_of(n);
+    let item = f.item;
+    let rest = f.rest;
+    let a = finish(out, p, q, item);
+    let b = repeat(out, lits, p, q, a, rest.plain, Item::Once);
+    let c = repeat(out, lits, p, q, b, rest.opts, Item::Maybe);
+    repeat(out, lits, p, q, c, rest.reps, Item::Many)
+}
+
+// Writes the nested items of a repeat of the tree that stands from p to q, from p on.
+fn spread(out: &mut [u32], lits: &mut [u8], p: Place, q: Place, n: Items) -> Wrote
+    requires { ⌜ Spreadable p q n (now out) (now lits) ⌝ }
+    ensures { λ a. ⌜ ((e : E) → Source p q e (now (out .entry)) (now (lits .entry)) → Answer a p (nest (itemsOf n e)) (now (out .entry)) (now (out .exit)) (now (lits .entry)) (now (lits .exit))) ⌝ }
+{
+    let i = p.rows;
+    let x = p.text;
+    // known before anything is copied
+    if !hold(out.len() / 4 - i, lits.len() - x, q.rows - i, q.text - x, n) {
+        return Wrote::Full;
+    }
+    let s = lay(out, lits, p, q, n);
+    let others = n.plain + (n.opts + n.reps) - 1;
+    chains::close(out, s, 8, others)
+}
+
+// Whether a kind is unrolled.
+fn is_repeat(kind: u32) -> bool
+    ensures { λ r. ⌜ Tells r (IsRepeat kind) ⌝ }
+{
+    if kind < 12 {
+        return false;
+    }
+    kind < 17
+}
+
+// Writes the node of kind, x and y over the tree that stands from p to q, unrolled.
+fn node(out: &mut [u32], lits: &mut [u8], p: Place, q: Place, kind: u32, x: u32, y: u32) -> Wrote
+    requires { ⌜ Headed p q (kind, x, y) (now out) (now lits) ⌝ }
+    ensures { λ a. ⌜ ((u : Un) (e : E) → (kind, x, y) ≡ unHead u → Source p q e (now (out .entry)) (now (lits .entry)) → Answer a p (unrolled u e) (now (out .entry)) (now (out .exit)) (now (lits .entry)) (now (lits .exit))) ⌝ }
+{
+    if is_repeat(kind) {
+        let n = items_for(kind, x, y);
+        return spread(out, lits, p, q, n);
+    }
+    let size = q.rows - p.rows + 1;
+    writing::put_row(out, q, kind, x, y, size as u32)
+}
+
+// Writes the subtree of row `root`, unrolled, at p.
+pub fn unroll(
+    rows: &[u32],
+    text: &[u8],
+    root: usize,
+    out: &mut [u32],
+    lits: &mut [u8],
+    p: Place,
+) -> Wrote
+    requires { ⌜ Inside (now rows) (length (now text)) ⌝ }
+    requires { ⌜ Counted (now rows) root ⌝ }
+    requires { ⌜ Room p (now out) (now lits) ⌝ }
+    ensures { λ a. ⌜ ((r : Expr Span) → At (now (rows .entry)) root r → Answer a p (unroll (resolve (now (text .entry)) r)) (now (out .entry)) (now (out .exit)) (now (lits .entry)) (now (lits .exit))) ⌝ }
+{
+    let Lookup::Row {
+        kind,
+        x,
+        y,
+        size: _,
+    } = rows::row_at(rows, root)
+    else {
+        return Wrote::Full;
+    };
+    match rows::shape_of(kind) {
+        Shape::Lit => writing::put_lit(text, x as usize, y as usize, kind, out, lits, p),
+        Shape::Num => writing::put_row(out, p, kind, x, y, 1),
+        Shape::Skips => writing::copy(rows, text, root, out, lits, p),
+        Shape::One => {
+            let Wrote::Done(q) = unroll(rows, text, root - 1, out, lits, p) else {
+                return Wrote::Full;
+            };
+            node(out, lits, p, q, kind, x, y)
+        }
+        Shape::Two => {
+            let right = root - 1;
+            let Lookup::Row {
+                kind: _,
+                x: _,
+                y: _,
+                size: n,
+            } = rows::row_at(rows, right)
+            else {
+                return Wrote::Full;
+            };
+            let Wrote::Done(q) = unroll(rows, text, right - n as usize, out, lits, p) else {
+                return Wrote::Full;
+            };
+            let Wrote::Done(s) = unroll(rows, text, right, out, lits, q) else {
+                return Wrote::Full;
+            };
+            let size = s.rows - p.rows + 1;
+            writing::put_row(out, s, kind, x, y, size as u32)
+        }
+    }
+}
