@@ -1,6 +1,6 @@
 -- A step by its number, and what a pass over the rules of a table leaves in three areas. Assumes nothing.
 use mathlib.Core.Path.{_≡_}
-use mathlib.Core.Bool.{Bool, true, false, _||_, cond}
+use mathlib.Core.Bool.{Bool, true, false, not, _||_, cond}
 use mathlib.Core.List.{List, _++_}
 use Prim.Native.Nat.{ℕ, _+_, _*_, _/_, _^_, _≤_, _<_}
 use lib.ListN.{length, take, getD}
@@ -21,11 +21,14 @@ use Rattle.writing.specs.declared.Wrote.the-variants.{Done, Full}
 
 -- steps 1 to 7. Skip reads its lists in the table as given, restore looks into the table that it is put on: that is `look`
 unfoldable pub stepOf : ℕ → (look : Table Bytes) → ℕ → E → E
-stepOf n look type e = e
+stepOf n look type e =
+    cond (eqb n 1) (rotate e)
+    (cond (eqb n 3) (unroll e)
+    (cond (eqb n 4) (concatenate type e) (cond (eqb n 5) (factor type e) (cond (eqb n 6) (list e) e))))
 
--- skip, unroll and restore can grow
+-- rotate, concatenate, factor and list cannot grow
 abbrev pub grows : ℕ → Bool
-grows n = eqb n 2 || (eqb n 3 || eqb n 7)
+grows n = not (eqb n 1 || (eqb n 4 || (eqb n 5 || eqb n 6)))
 
 -- the answer of a step, whether it can grow or not
 abbrev pub StepAnswer : Wrote → Place → E → List ℕ → List ℕ → List ℕ → List ℕ → Type 0

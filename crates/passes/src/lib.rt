@@ -36,7 +36,14 @@ pub fn walk(
     requires { ⌜ Prepared step (now rows) (now text) root p (now out) (now lits) ⌝ }
     ensures { λ a. ⌜ ((gs : Table Span) (r : Expr Span) → Lent gs (now (heads0 .entry)) (now (rows0 .entry)) → At (now (rows .entry)) root r → StepAnswer a p (stepOf step (resolveTable (now (text0 .entry)) gs) kind (resolve (now (text .entry)) r)) (now (out .entry)) (now (out .exit)) (now (lits .entry)) (now (lits .exit))) ⌝ }
 {
-    writing::copy(rows, text, root, out, lits, p)
+    match step {
+        1 => rotator::rotate(rows, text, root, out, lits, p),
+        3 => unroller::unroll(rows, text, root, out, lits, p),
+        4 => concatenator::concatenate(rows, text, root, kind, out, lits, p),
+        5 => factorizer::factor(rows, text, root, kind, out, lits, p),
+        6 => lister::list(rows, text, root, out, lits, p),
+        _ => writing::copy(rows, text, root, out, lits, p),
+    }
 }
 
 // Writes n bytes of a text at p.
