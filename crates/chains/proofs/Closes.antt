@@ -15,7 +15,7 @@ use Rattle.writing.specs.declared.Place.{Place}
 use Rattle.writing.specs.declared.Wrote.{Wrote}
 use Rattle.writing.specs.declared.Wrote.the-variants.{Done, Full}
 use Rattle.chains.specs.Chains.{chain, sizes, flats, closing, Forest, Closable, Closed, ClosedAnswer, IsBin}
-use Rattle.chains.proofs.Trees.{flat-chain, size-chain, length-closing, sizes-append, flats-append}
+use Rattle.chains.proofs.Trees.{Snoc, as-snoc, flat-chain, size-chain, length-closing, sizes-append, flats-append}
 
 pub length-flats : (xs : List (Expr Span)) → length (flats xs) ≡ sizes xs * 4
 length-flats [] = refl
@@ -29,17 +29,6 @@ last-at {o} {i} {before} {xs} {r} f = record {
   whole = sym (take-append-drop (i * 4) o) ∙ rw (f .words) (simp append-assoc);
   place = simp length-append (omega (arith, f .place, length-flats xs, size-pos r));
 }
-
--- trees, as those before the last one and the last
-pub record Snoc (ys : List (Expr Span)) : Type 0 where
-  pub init : List (Expr Span)
-  pub last : Expr Span
-  pub is : ys ≡ init ++ (last ∷ [])
-
-pub as-snoc : (ys : List (Expr Span)) → 0 < length ys → Snoc ys
-as-snoc [] h = absurd (omega arith)
-as-snoc (y ∷ []) h = record { init = []; last = y; is = refl }
-as-snoc (y ∷ z ∷ ys) h = let t = as-snoc (z ∷ ys) (omega arith) in record { init = y ∷ t .init; last = t .last; is = ap (λ (l : List (Expr Span)). y ∷ l) (t .is) }
 
 -- of the trees xs and then r up to row i of the words o₀, those from row `first` on are joined by the rows from i to `at`
 pub record Turn (o₀ : List ℕ) (i : ℕ) (b : Bin) (before : List ℕ) (xs : List (Expr Span)) (r : Expr Span) (o : List ℕ) (at first : ℕ) : Type 0 where

@@ -1,7 +1,7 @@
 -- Laws of chains and of trees one after the other: rows, text, packing, and the rows that close a chain. Assumes nothing.
 use mathlib.Core.Path.{_≡_, refl, sym, ap, _∙_}
 use mathlib.Core.List.{List, [], _∷_, _++_, append-assoc, append-nil}
-use Prim.Native.Nat.{ℕ, suc, _+_, _*_}
+use Prim.Native.Nat.{ℕ, suc, _+_, _*_, _<_}
 use native.Mathlib.Nat.{add-zero}
 use native.Mathlib.Omega.{arith}
 use lib.ListN.{length, length-append}
@@ -16,6 +16,17 @@ use Rattle.chains.specs.Chains.{chain, sizes, flats, texts, packs, closi
 pub flat-chain : (b : Bin) (xs : List (Expr Span)) (r : Expr Span) → flat (chain b xs r) ≡ flats xs ++ (flat r ++ closing b xs r)
 flat-chain b [] r = sym (append-nil (flat r))
 flat-chain b (x ∷ xs) r = rw (flat-chain b xs r) (simp append-assoc)
+
+-- trees, as those before the last one and the last
+pub record Snoc {L : Type 0} (xs : List (Expr L)) : Type 0 where
+  pub init : List (Expr L)
+  pub last : Expr L
+  pub is : xs ≡ init ++ (last ∷ [])
+
+pub as-snoc : {L : Type 0} (xs : List (Expr L)) → 0 < length xs → Snoc xs
+as-snoc [] h = absurd (omega arith)
+as-snoc (x ∷ []) h = record { init = []; last = x; is = refl }
+as-snoc (x ∷ y ∷ xs) h = let t = as-snoc (y ∷ xs) (omega arith) in record { init = x ∷ t .init; last = t .last; is = ap (λ (l : List (Expr _)). x ∷ l) (t .is) }
 
 -- items that form a right-nested Seq are a chain
 pub nest-chain : (xs : List E) (r : E) → nest (xs ++ (r ∷ [])) ≡ chain Seq xs r

@@ -5,20 +5,21 @@ use Prim.Native.Nat.{ℕ, _+_, _-_, _*_, _/_, _≤_, _<_}
 use native.Mathlib.Omega.{arith}
 use lib.ListN.{length}
 use Rattle.grammar.specs.Basic.{Bytes}
-use Rattle.grammar.specs.Tree.{E, Expr, un, size}
+use Rattle.grammar.specs.Tree.{E, Expr, lit, fixed, un, size}
 use Rattle.grammar.specs.Rows.{Span}
-use Rattle.grammar.specs.Text.{resolve}
+use Rattle.grammar.specs.Text.{bytesAt, resolve}
 use Rattle.rows.specs.declared.Shape.{Shape}
 use Rattle.rows.specs.declared.Shape.the-variants.{Lit, Num, One, Two, Skips}
 use Rattle.rows.specs.Rows.{At, sizeAt, shapeOf}
 use Rattle.rows.proofs.Laws.{Found, root}
-use Rattle.rows.proofs.Views.{OneView, TwoView, shapeIn, found-shape, left-at}
+use Rattle.rows.proofs.Views.{LitView, NumView, OneView, TwoView, shapeIn, found-shape, left-at}
 use Rattle.writing.specs.declared.Place.{Place}
 use Rattle.writing.specs.declared.Wrote.{Wrote}
 use Rattle.writing.specs.declared.Wrote.the-variants.{Done, Full}
-use Rattle.writing.specs.Writes.{Fits, RowAnswer}
+use Rattle.writing.specs.Writes.{Fits, RowAnswer, LitAnswer}
 use Rattle.writing.specs.Keeps.{Kept, KeptAnswer}
-use Rattle.writing.proofs.Keeps.{kept-un, row-room}
+use Rattle.writing.proofs.Trees.{lit-tree, fixed-tree}
+use Rattle.writing.proofs.Keeps.{answer-kept, kept-un, row-room}
 
 -- ---- the size word falls
 
@@ -45,6 +46,18 @@ module _ (f : E → E) (t : Bytes) (leaves : (r : Expr Span) → Leaf (shapeIn r
   pub leaf-kept : {w : List ℕ} {i k x y n : ℕ} {r : Expr Span} → Found w i k x y n → At w i r → {s : Shape} → shapeOf k ≡ s → Leaf s → (z : Wrote) (p : Place) (o o′ b b′ : List ℕ)
       → KeptAnswer z p (resolve t r) o o′ b b′ → KeptAnswer z p (f (resolve t r)) o o′ b b′
   leaf-kept {r} g a h l z p o o′ b b′ c = rw (leaves r (subst Leaf (sym (found-shape g a h)) l)) c
+
+-- a literal's row and two numbers' row
+module _ (t : Bytes) {k x y n : ℕ} {r : Expr Span} (a : Wrote) (p : Place) (o o′ b : List ℕ) (h : Fits p (resolve t r) o b) where
+  pub lit-kept : LitView k x y n r → (b′ : List ℕ) → LitAnswer a p k (bytesAt t (x, y)) o o′ b b′ → KeptAnswer a p (resolve t r) o o′ b b′
+  lit-kept v b′ g =
+      let f : Fits p (lit (v .op) (bytesAt t (x, y))) o b = rw (v .is) at h in
+      rw (v .is) (answer-kept a p (lit (v .op) (bytesAt t (x, y))) o o′ b b′ f (lit-tree a p (v .op) (bytesAt t (x, y)) o o′ b b′ (rw (v .kind) at g)))
+
+  pub num-kept : NumView k x y n r → RowAnswer a p (k, x, y) 1 o o′ → KeptAnswer a p (resolve t r) o o′ b b
+  num-kept v g =
+      let f : Fits p (fixed (v .op)) o b = rw (v .is) at h in
+      rw (v .is) (answer-kept a p (fixed (v .op)) o o′ b b f (fixed-tree a p (v .op) (k, x, y) o o′ b (v .head) (omega (arith, h .text)) g))
 
 -- ---- a root's row after its child
 

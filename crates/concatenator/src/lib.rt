@@ -97,8 +97,8 @@ fn bottom_up(
         return Wrote::Full;
     };
     match rows::shape_of(kind) {
-        Shape::Lit => writing::keep(rows, text, root, out, lits, p),
-        Shape::Num => writing::keep(rows, text, root, out, lits, p),
+        Shape::Lit => writing::put_lit(text, x as usize, y as usize, kind, out, lits, p),
+        Shape::Num => writing::put_row(out, p, kind, x, y, 1),
         Shape::Skips => writing::keep(rows, text, root, out, lits, p),
         Shape::One => {
             let Wrote::Done(q) = bottom_up(rows, text, root - 1, out, lits, p) else {

@@ -1,15 +1,14 @@
 -- Factor on trees, case by case, and that it takes no more rows and no more text. Assumes nothing.
-use mathlib.Core.Path.{_≡_, refl, sym, ap, subst, _∙_}
+use mathlib.Core.Path.{_≡_, refl, ap, _∙_}
 use mathlib.Core.Bool.{Bool, true, false}
-use mathlib.Core.List.{List, _++_, append-assoc}
 use mathlib.Core.Option.{Option, none, some}
-use Prim.Native.Nat.{ℕ, zero, suc, _+_, _≤_, _<_}
+use Prim.Native.Nat.{ℕ, zero, suc, _≤_}
 use native.Mathlib.Omega.{arith}
 use lib.ListN.{length, length-append}
-use Rattle.grammar.specs.Basic.{Bytes, _>>=_, orElse, test}
-use Rattle.grammar.specs.Tree.{E, Un, Bin, Opt, Seq, Choice, lit, fixed, skip, un, bin, size, asSeq, asChoice, same}
+use Rattle.grammar.specs.Basic.{_>>=_, orElse, test}
+use Rattle.grammar.specs.Tree.{E, Un, Opt, Seq, Choice, lit, fixed, skip, un, bin, size, asSeq, asChoice, same}
 use Rattle.grammar.specs.Text.{textOf}
-use Rattle.grammar.specs.Steps.{children, topDown, topDownIn, orSame, factorCase, factor?, factor, isTight}
+use Rattle.grammar.specs.Steps.{children, topDownIn, orSame, factorCase, factor?, factor, isTight}
 use Rattle.grammar.proofs.Logic.{eq-same, same-eq}
 use Rattle.grammar.proofs.TopDown.{topDown-step, factor-falls, asSeq-is, size-pos}
 use Rattle.factorizer.specs.Factors.{factored, beneath}

@@ -1,22 +1,21 @@
 -- A Seq's sides in rows, and the case of a Choice by what was told of its sides. Assumes nothing.
-use mathlib.Core.Path.{_≡_, refl, sym, ap, subst, _∙_}
-use mathlib.Core.Bool.{Bool, true, false}
+use mathlib.Core.Path.{_≡_, ap, subst, _∙_}
+use mathlib.Core.Bool.{Bool, true}
 use mathlib.Core.List.{List}
 use mathlib.Core.Option.{none}
-use Prim.Native.Nat.{ℕ, _+_, _-_, _≤_}
-use native.Mathlib.Omega.{arith}
-use lib.ListN.{length}
+use Prim.Native.Nat.{ℕ, _-_}
 use Rattle.grammar.specs.Basic.{Bytes}
-use Rattle.grammar.specs.Tree.{Expr, Seq, Choice, bin, size, asSeq}
+use Rattle.grammar.specs.Tree.{Expr, Seq, bin, asSeq}
 use Rattle.grammar.specs.Rows.{Span}
 use Rattle.grammar.specs.Text.{resolve}
 use Rattle.rows.specs.Rows.{At, Inside, StandsIn, shapeOf}
 use Rattle.rows.proofs.Laws.{Found, found-size}
-use Rattle.rows.proofs.Views.{TwoView, as-two, two-is, inside-within}
+use Rattle.rows.proofs.Views.{TwoView, as-two, two-is}
+use Rattle.rows.proofs.Insides.{inside-within}
 use Rattle.rows.proofs.Cells.{bin-shape}
 use Rattle.factorizer.specs.declared.Sides.{Sides}
 use Rattle.factorizer.specs.declared.Sides.the-variants.{Split, Other}
-use Rattle.factorizer.specs.declared.Case.the-variants.{Heads, Tail, First, Plain}
+use Rattle.factorizer.specs.declared.Case.the-variants.{Plain}
 use Rattle.factorizer.specs.Cases.{SeqAt, SidesTold, CaseTold}
 use Rattle.factorizer.proofs.Factors.{no-heads, no-tail, no-first, no-seqs}
 

@@ -2,7 +2,7 @@
 use mathlib.Core.Path.{_≡_, refl, sym, ap, subst, _∙_}
 use mathlib.Core.Bool.{Bool}
 use mathlib.Core.List.{List}
-use Prim.Native.Nat.{ℕ, _+_, _-_, _*_, _/_, _≤_, _<_}
+use Prim.Native.Nat.{ℕ, _+_, _-_, _/_, _≤_, _<_}
 use native.Mathlib.Omega.{arith}
 use lib.ListN.{length, length-append}
 use Rattle.grammar.specs.Basic.{Bytes}
@@ -32,12 +32,12 @@ use Rattle.factorizer.proofs.Factors.{factored-un, factored-other, fact
 pub un-answer : (a : Wrote) {q p : Place} {e : E} {o o₁ t t₁ : List ℕ} (o₂ : List ℕ) (u : Un) → Kept q p e o o₁ t t₁ → {h : Head} → h ≡ unHead u → q .rows < length o₁ / 4
     → RowAnswer a q h (q .rows - p .rows + 1) o₁ o₂ → KeptAnswer a p (un u e) o o₂ t t₁
 un-answer Full o₂ u w k r g = g r
-un-answer (Done a) o₂ u w k r g = kept-un w u _ (omega (arith, w .rows)) (rw k at g)
+un-answer (Done a) o₂ u w k r g = kept-un w u _ _ k (omega (arith, w .rows)) g
 
 pub bin-answer : (a : Wrote) {s q p : Place} {e f : E} {o o₁ o₂ t t₁ t₂ : List ℕ} (o₃ : List ℕ) (b : Bin) → Kept q p e o o₁ t t₁ → Kept s q f o₁ o₂ t₁ t₂ → {k : ℕ} → k ≡ binKind b → s .rows < length o₂ / 4
     → RowAnswer a s (k, 0, 0) (s .rows - p .rows + 1) o₂ o₃ → KeptAnswer a p (bin b e f) o o₃ t t₂
 bin-answer Full o₃ b w v k r g = g r
-bin-answer (Done a) o₃ b w v k r g = kept-bin w v b _ (omega (arith, w .rows, v .rows)) (rw k at g)
+bin-answer (Done a) o₃ b w v {k = h} k r g = kept-bin w v b (h, 0, 0) _ (rw k) (omega (arith, w .rows, v .rows)) g
 
 -- ---- leaves are as they were
 
@@ -74,10 +74,6 @@ module _ (tight : Bool) (t : Bytes) {w : List ℕ} {i k x y n : ℕ} {r : Expr S
 
 pub choice-view : {w : List ℕ} {i k x y n : ℕ} {r : Expr Span} → Found w i k x y n → At w i r → k ≡ 9 → TwoView w i k x y n r
 choice-view f a e = as-two f a (ap shapeOf e ∙ bin-shape Choice)
-
--- the left child's place, found by the right one's size
-pub left-at : {w : List ℕ} {i k x y n : ℕ} {r : Expr Span} (v : TwoView w i k x y n r) {m : ℕ} → m ≡ size (v .right) → At w (i - 1 - m) (v .left)
-left-at v h = rw h (v .atLeft)
 
 -- ---- what was told of a Choice
 

@@ -1,10 +1,9 @@
 // Factor, over a whole subtree: a Choice of two sides that begin alike.
 ghost use mathlib.Core.Path.{_≡_};
-ghost use mathlib.Core.Bool.{Bool};
 ghost use Rattle.grammar.specs.Basic.{Bytes};
-ghost use Prim.Native.Nat.{ℕ, _+_, _-_, _*_, _/_, _^_, _≤_, _<_};
+ghost use Prim.Native.Nat.{_+_, _-_, _^_, _≤_, _<_};
 ghost use lib.ListN.{length};
-ghost use Rattle.grammar.specs.Tree.{Expr, E, Bin, Choice, bin, binKind};
+ghost use Rattle.grammar.specs.Tree.{Expr, Bin, Choice, bin, binKind};
 ghost use Rattle.grammar.specs.Rows.{Span};
 ghost use Rattle.grammar.specs.Text.{resolve};
 ghost use Rattle.grammar.specs.Steps.{isTight, factor};

@@ -1,16 +1,14 @@
 -- What ends a node of two children, by what was told of them. Assumes nothing.
-use mathlib.Core.Path.{_≡_, refl, sym, ap, subst, _∙_}
+use mathlib.Core.Path.{_≡_, refl, sym, ap, _∙_}
 use mathlib.Core.Bool.{Bool, true, false}
 use mathlib.Core.List.{List}
-use Prim.Native.Nat.{ℕ, _+_, _-_, _*_, _≤_, _<_}
+use Prim.Native.Nat.{ℕ, _+_, _-_}
 use native.Mathlib.Omega.{arith}
-use lib.ListN.{length, take, drop}
 use Rattle.grammar.specs.Tree.{E, Expr, Bin, Seq, Choice, bin, binKind, size}
 use Rattle.grammar.specs.Rows.{Span}
 use Rattle.grammar.specs.Text.{resolve}
 use Rattle.grammar.specs.Steps.{orSame, list?}
 use Rattle.rows.specs.Rows.{At, Tells}
-use Rattle.rows.proofs.Laws.{size-pos}
 use Rattle.rows.proofs.Cells.{bin-same, tells-yes, tells-no}
 use Rattle.writing.specs.declared.Place.{Place}
 use Rattle.writing.specs.declared.Wrote.{Wrote}

@@ -1,14 +1,13 @@
 -- List on trees, node by node: when it fires, and that it keeps the number of rows and the text. Assumes nothing.
-use mathlib.Core.Path.{_≡_, refl, sym, ap, _∙_}
+use mathlib.Core.Path.{_≡_, refl, ap, _∙_}
 use mathlib.Core.Bool.{Bool, true, false}
-use mathlib.Core.List.{List, _++_, append-assoc}
-use mathlib.Core.Option.{Option, none, some}
-use Prim.Native.Nat.{ℕ, _+_}
+use mathlib.Core.List.{append-assoc}
+use mathlib.Core.Option.{none, some}
 use native.Mathlib.Omega.{arith}
-use Rattle.grammar.specs.Basic.{Bytes, _>>=_, orElse, test}
+use Rattle.grammar.specs.Basic.{_>>=_, test}
 use Rattle.grammar.specs.Tree.{E, Un, Bin, PosPred, NegPred, Opt, Rep, RepOnce, Push, RestoreOnErr, RepExact, RepMin, RepMax, RepMinMax, Seq, Choice, lit, fixed, skip, un, bin, size, same}
 use Rattle.grammar.specs.Text.{textOf}
-use Rattle.grammar.specs.Steps.{bottomUp, orSame, list, list?}
+use Rattle.grammar.specs.Steps.{orSame, list, list?}
 use Rattle.grammar.proofs.Logic.{eq-same, same-eq}
 use Rattle.lister.specs.Loops.{Loops}
 

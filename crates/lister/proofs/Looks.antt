@@ -1,9 +1,8 @@
 -- A loop (a~b)* in rows: its Rep row, its Seq row, and where a stands. Assumes nothing.
 use mathlib.Core.Path.{_≡_, refl, sym, ap, _∙_}
-use mathlib.Core.Bool.{Bool, true, false}
+use mathlib.Core.Bool.{Bool}
 use mathlib.Core.List.{List}
-use mathlib.Core.Option.{Option, none, some}
-use Prim.Native.Nat.{ℕ, _+_, _-_, _≤_, _<_}
+use Prim.Native.Nat.{ℕ, _+_, _-_, _≤_}
 use native.Mathlib.Omega.{arith}
 use Rattle.grammar.specs.Basic.{Bytes}
 use Rattle.grammar.specs.Tree.{E, Expr, Un, PosPred, NegPred, Opt, Rep, RepOnce, Push, RestoreOnErr, RepExact, RepMin, RepMax, RepMinMax, Seq, Head, un, bin, unHead, size, asRep, asSeq}
@@ -11,8 +10,8 @@ use Rattle.grammar.specs.Rows.{Span}
 use Rattle.grammar.specs.Text.{resolve}
 use Rattle.grammar.proofs.Logic.{none-some}
 use Rattle.rows.specs.Rows.{At, Tells, shapeOf}
-use Rattle.rows.proofs.Laws.{Found, found-size, size-pos, root}
-use Rattle.rows.proofs.Views.{OneView, TwoView, as-one, as-two, two-is, one-none, two-none}
+use Rattle.rows.proofs.Laws.{Found}
+use Rattle.rows.proofs.Views.{as-one, as-two, two-is, one-none, two-none}
 use Rattle.rows.proofs.Cells.{un-shape, bin-shape, tells-iff}
 use Rattle.lister.specs.Loops.{Loops}
 

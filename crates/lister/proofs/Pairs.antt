@@ -1,12 +1,11 @@
 -- Two trees just written: as a table to compare in, and the node that ends them. Assumes nothing.
-use mathlib.Core.Path.{_≡_, refl, sym, ap, subst, _∙_}
-use mathlib.Core.Bool.{Bool, true, false}
-use mathlib.Core.List.{List, [], _∷_, _++_, append-assoc, append-nil}
-use Prim.Native.Nat.{ℕ, _+_, _-_, _*_, _/_, _≤_, _<_}
+use mathlib.Core.Path.{_≡_, sym, ap, subst, _∙_}
+use mathlib.Core.Bool.{Bool}
+use mathlib.Core.List.{List, _++_, append-assoc}
+use Prim.Native.Nat.{ℕ, _+_, _-_, _*_, _≤_}
 use native.Mathlib.Omega.{arith}
 use lib.ListN.{length, take, drop, length-append, take-append-drop}
 use lib.Seq.{take-add, take-take, drop-at, take-at, length-take-le}
-use Rattle.grammar.specs.Basic.{Bytes}
 use Rattle.grammar.specs.Tree.{E, Expr, Bin, Rep, Seq, bin, un, binKind, size}
 use Rattle.grammar.specs.Rows.{Span, row, flat}
 use Rattle.grammar.specs.Text.{resolve, textOf, packed}
@@ -16,12 +15,12 @@ use Rattle.rows.proofs.Laws.{length-flat, size-pos}
 use Rattle.writing.specs.declared.Place.{Place}
 use Rattle.writing.specs.declared.Wrote.{Wrote}
 use Rattle.writing.specs.declared.Wrote.the-variants.{Done, Full}
-use Rattle.writing.specs.Writes.{stored, RowAnswer}
-use Rattle.writing.specs.Keeps.{Kept, KeptAnswer}
+use Rattle.writing.specs.Writes.{RowAnswer}
+use Rattle.writing.specs.Keeps.{KeptAnswer}
 use Rattle.writing.proofs.Runs.{take-stored}
 use Rattle.writing.proofs.Keeps.{resolve-packed, within-packed}
 use Rattle.lister.specs.Loops.{Loops}
-use Rattle.lister.specs.Mends.{Pair, Movable, MendedAnswer}
+use Rattle.lister.specs.Mends.{Pair, MendedAnswer}
 use Rattle.lister.proofs.Lists.{listed}
 
 -- what is known up to n, cut at m

@@ -1,12 +1,12 @@
 -- A subtree that was read is listed by what its children's calls answer. Assumes nothing.
 use mathlib.Core.Path.{_≡_, refl, sym, ap, subst, _∙_}
 use mathlib.Core.List.{List, _++_, append-assoc}
-use Prim.Native.Nat.{ℕ, _+_, _-_, _*_, _/_, _≤_, _<_}
+use Prim.Native.Nat.{ℕ, _*_, _/_, _≤_, _<_}
 use native.Mathlib.Omega.{arith}
-use lib.ListN.{length, take, length-append}
+use lib.ListN.{length, take}
 use lib.Seq.{length-take-le}
 use Rattle.grammar.specs.Basic.{Bytes}
-use Rattle.grammar.specs.Tree.{E, Expr, Un, Bin, lit, fixed, skip, un, bin, unHead, binKind, size}
+use Rattle.grammar.specs.Tree.{E, Expr, Bin, lit, fixed, skip, un, bin, binKind}
 use Rattle.grammar.specs.Rows.{Span, flat}
 use Rattle.grammar.specs.Text.{resolve, textOf, packed}
 use Rattle.grammar.specs.Steps.{list, list?, orSame}
@@ -21,7 +21,7 @@ use Rattle.writing.specs.declared.Wrote.{Wrote}
 use Rattle.writing.specs.declared.Wrote.the-variants.{Done, Full}
 use Rattle.writing.specs.Writes.{Fits, RowAnswer}
 use Rattle.writing.specs.Keeps.{Kept, KeptAnswer}
-use Rattle.writing.proofs.Keeps.{kept-done, kept-un, row-room, right-fits}
+use Rattle.writing.proofs.Keeps.{kept-un, row-room, right-fits}
 use Rattle.lister.specs.Mends.{Pair}
 use Rattle.lister.proofs.Lists.{list-un, list-bin, list-size, list-text}
 use Rattle.lister.proofs.Pairs.{front-of}
@@ -57,7 +57,7 @@ module _ (t : Bytes) {w : List ℕ} {i k x y n : ℕ} {r : Expr Span} (v : OneVi
       → RowAnswer a q (k, x, y) n o₁ o₂ → KeptAnswer a p (list (resolve t r)) o o₂ b b₁
   list-one Full o₂ c h g = absurd (g h)
   list-one (Done a) o₂ c h g =
-      rw (v .is, list-un) (kept-un c (v .op) n (v .rows ∙ omega (arith, list-size (resolve t (v .child)), size-resolve t (v .child))) (rw (v .head) at g))
+      rw (v .is, list-un) (kept-un c (v .op) (k, x, y) n (v .head) (v .rows ∙ omega (arith, list-size (resolve t (v .child)), size-resolve t (v .child))) g)
 
 -- ---- two children
 
@@ -91,10 +91,6 @@ module _ {p q s : Place} {e f : E} {o o₁ o₂ b b₁ b₂ : List ℕ} (w : Kep
   pub kept-before : (a : Wrote) (g : E) (o₃ : List ℕ) → KeptAnswer a p g o₂ o₃ b₂ b₂ → KeptAnswer a p g o o₃ b b₂
   kept-before Full g o₃ h = h
   kept-before (Done a) g o₃ h = record { rows = h .rows; text = h .text; words = h .words ∙ rw front-rows; bytes = h .bytes ∙ rw front-text }
-
--- the left child's place, found by the right one's size
-pub left-at : {w : List ℕ} {i k x y n : ℕ} {r : Expr Span} (v : TwoView w i k x y n r) {m : ℕ} → m ≡ size (v .right) → At w (i - 1 - m) (v .left)
-left-at v h = rw h (v .atLeft)
 
 module _ (t : Bytes) {w : List ℕ} {i k x y n : ℕ} {r : Expr Span} (v : TwoView w i k x y n r) where
   module _ {p q : Place} {o o₁ b b₁ : List ℕ} (c : Kept q p (list (resolve t (v .left))) o o₁ b b₁) (lo : length o₁ ≡ length o) (lb : length b₁ ≡ length b) (f : Fits p (resolve t r) o b) where

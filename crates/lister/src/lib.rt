@@ -1,6 +1,6 @@
 // List, over a whole subtree: (a~b)* ~ a becomes a ~ (b~a)*.
 ghost use mathlib.Core.Path.{_≡_};
-ghost use Prim.Native.Nat.{ℕ, _+_, _-_, _*_, _/_, _^_, _≤_, _<_};
+ghost use Prim.Native.Nat.{_+_, _-_, _*_, _^_, _≤_, _<_};
 ghost use lib.ListN.{length, take, drop};
 ghost use Rattle.grammar.specs.Tree.{Expr, E, Bin, bin, binKind};
 ghost use Rattle.grammar.specs.Rows.{Span};

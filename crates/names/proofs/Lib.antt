@@ -1,1 +1,3 @@
 -- Laws of names, that other crates' proofs cite.
+pub mod Marks
+pub mod Finding

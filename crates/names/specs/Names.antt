@@ -24,7 +24,7 @@ rowsBefore rules (suc i) = rowsBefore rules i + getD rules (i * 4 + 3) 0
 -- a word that tells names apart: where it differs, they do
 abbrev pub hashFrom : ℕ → Bytes → ℕ
 hashFrom h [] = h
-hashFrom h (b ∷ s) = hashFrom ((h * 31 + b) % 2 ^ 32) s
+hashFrom h (b ∷ s) = hashFrom ((h * 16777619 + b) % 2 ^ 32) s
 
 unfoldable pub hashOf : Bytes → ℕ
 hashOf s = hashFrom (length s % 2 ^ 32) s

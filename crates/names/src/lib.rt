@@ -19,7 +19,7 @@ pub enum Found {
 
 // A byte as a number.
 fn byte(b: u8) -> usize
-    ensures { λ r. ⌜ r ≡ b ⌝ }
+    ensures { λ r. ⌜ (r ≡ b) × (r < 256) ⌝ }
 {
     b as usize
 }
@@ -32,7 +32,7 @@ pub fn hash_bytes(text: &[u8], x: usize, n: usize) -> u32
     let mut h = n % 4294967296;
     let mut i = 0;
     while i < n {
-        h = (h * 31 + byte(text[x + i])) % 4294967296;
+        h = (h * 16777619 + byte(text[x + i])) % 4294967296;
         i += 1;
     }
     h as u32

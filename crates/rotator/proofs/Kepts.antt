@@ -2,7 +2,6 @@
 use mathlib.Core.Path.{_≡_, refl, sym, ap, subst, _∙_}
 use mathlib.Core.List.{List, [], _∷_, _++_, append-assoc, append-nil}
 use Prim.Native.Nat.{ℕ, _+_, _-_, _*_, _/_, _≤_, _<_}
-use native.Mathlib.Nat.{add-zero}
 use native.Mathlib.Omega.{arith}
 use lib.ListN.{length, take, length-append}
 use lib.Seq.{length-take-le}
@@ -11,32 +10,37 @@ use Rattle.grammar.specs.Tree.{E, Expr, Bin, lit, fixed, skip, un, bin, binKind
 use Rattle.grammar.specs.Rows.{Span, flat}
 use Rattle.grammar.specs.Text.{resolve, textOf, packed}
 use Rattle.grammar.specs.Steps.{rotate}
-use Rattle.rows.specs.Rows.{At}
-use Rattle.rows.proofs.Laws.{headOf, Found, root}
-use Rattle.rows.proofs.Cells.{bin-same, size-resolve}
-use Rattle.rows.proofs.Views.{TwoView, shapeIn}
+use Rattle.rows.specs.declared.Shape.{Shape}
+use Rattle.rows.specs.declared.Shape.the-variants.{One, Two}
+use Rattle.rows.specs.Rows.{At, shapeOf}
+use Rattle.rows.proofs.Laws.{Found}
+use Rattle.rows.proofs.Cells.{bin-shape, bin-same, size-resolve}
+use Rattle.rows.proofs.Views.{OneView, TwoView, shapeIn, found-shape}
 use Rattle.writing.specs.declared.Place.{Place}
 use Rattle.writing.specs.declared.Wrote.{Wrote}
 use Rattle.writing.specs.declared.Wrote.the-variants.{Done, Full}
-use Rattle.writing.specs.Writes.{Areas, Fits}
-use Rattle.writing.specs.Keeps.{Kept, KeptAnswer, Ready}
+use Rattle.writing.specs.Writes.{Areas, Fits, RowAnswer}
+use Rattle.writing.specs.Keeps.{Kept, KeptAnswer}
 use Rattle.writing.proofs.Trees.{size-packed}
-use Rattle.chains.specs.Chains.{chain, sizes, flats, texts, packs, Forest, Closable, Closed, ClosedAnswer}
-use Rattle.chains.proofs.Trees.{sizes-append, flats-append, texts-append, packs-append, sizes-packs, length-packs, packed-chain}
+use Rattle.chains.specs.Chains.{chain, sizes, flats, texts, packs, Forest, Closable, ClosedAnswer}
+use Rattle.chains.proofs.Trees.{Snoc, as-snoc, size-chain, text-chain, sizes-append, flats-append, texts-append, packs-append, sizes-packs, length-packs, packed-chain}
 use Rattle.chains.proofs.Closes.{chain-stands}
-use Rattle.chains.proofs.Walks.{Leaf}
-use Rattle.rotator.specs.Members.{members, KeptAll, AllAnswer}
-use Rattle.rotator.proofs.Rotations.{rotate-lit, rotate-fixed, rotate-skip, rotate-bin, rotate-size, rotate-text, members-bin, members-other, members-size, members-text}
-
-pub rotate-leaf : (t : Bytes) (r : Expr Span) → Leaf (shapeIn r) → rotate (resolve t r) ≡ resolve t r
-rotate-leaf t (lit k s) h = rotate-lit k _
-rotate-leaf t (fixed f) h = rotate-fixed f
-rotate-leaf t (skip ss) h = rotate-skip _
-rotate-leaf t (un u e) h = absurd h
-rotate-leaf t (bin b l r) h = absurd h
+use Rattle.chains.proofs.Walks.{Leaf, leaf-kept, one-kept}
+use Rattle.rotator.specs.Members.{members, membersOf, KeptAll, AllAnswer}
+use Rattle.rotator.proofs.Rotations.{rotate-lit, rotate-fixed, rotate-skip, rotate-un, rotate-all, rotate-size, members-bin, members-two, members-some, members-size, members-text, by-bin, by-other}
 
 -- ---- trees one after the other
 
+pub all-done : {a : Wrote} {q : Place} (p : Place) (es : List E) (o o′ t t′ : List ℕ) → a ≡ Done q → AllAnswer a p es o o′ t t′ → KeptAll q p es o o′ t t′
+all-done p es o o′ t t′ h w = subst (λ (z : Wrote). AllAnswer z p es o o′ t t′) h w
+
+pub all-full : {a : Wrote} (p : Place) (es : List E) (o o′ t t′ : List ℕ) → a ≡ Full → AllAnswer a p es o o′ t t′ → ⊥
+all-full p es o o′ t t′ h w = subst (λ (z : Wrote). AllAnswer z p es o o′ t t′) h w
+
+pub all-same : (a : Wrote) (p : Place) {es fs : List E} (o o′ t t′ : List ℕ) → es ≡ fs → AllAnswer a p es o o′ t t′ → AllAnswer a p fs o o′ t t′
+all-same a p o o′ t t′ h w = subst (λ (z : List E). AllAnswer a p z o o′ t t′) h w
+
+-- one tree alone
 pub all-one : (a : Wrote) (p : Place) (e : E) (o o′ t t′ : List ℕ) → KeptAnswer a p e o o′ t t′ → AllAnswer a p (e ∷ []) o o′ t t′
 all-one Full p e o o′ t t′ w = w
 all-one (Done q) p e o o′ t t′ w = record {
@@ -46,95 +50,168 @@ all-one (Done q) p e o o′ t t′ w = record {
   bytes = w .bytes ∙ rw (append-nil (textOf e));
 }
 
-pub all-done : {a : Wrote} {q : Place} (p : Place) (es : List E) (o o′ t t′ : List ℕ) → a ≡ Done q → AllAnswer a p es o o′ t t′ → KeptAll q p es o o′ t t′
-all-done p es o o′ t t′ h w = subst (λ (z : Wrote). AllAnswer z p es o o′ t t′) h w
+pub one-all : (a : Wrote) (p : Place) (e : E) (o o′ t t′ : List ℕ) → AllAnswer a p (e ∷ []) o o′ t t′ → KeptAnswer a p e o o′ t t′
+one-all Full p e o o′ t t′ w = w
+one-all (Done q) p e o o′ t t′ w = record {
+  rows = omega (arith, w .rows);
+  text = w .text ∙ rw (append-nil (textOf e));
+  words = w .words ∙ rw (append-nil (flat (packed (p .text) e)));
+  bytes = w .bytes ∙ rw (append-nil (textOf e));
+}
 
-pub all-full : {a : Wrote} (p : Place) (es : List E) (o o′ t t′ : List ℕ) → a ≡ Full → AllAnswer a p es o o′ t t′ → ⊥
-all-full p es o o′ t t′ h w = subst (λ (z : Wrote). AllAnswer z p es o o′ t t′) h w
-
-pub all-append : (a : Wrote) {q p : Place} {es : List E} (fs : List E) {o o₁ t t₁ : List ℕ} (o₂ t₂ : List ℕ) → KeptAll q p es o o₁ t t₁ → AllAnswer a q fs o₁ o₂ t₁ t₂ → AllAnswer a p (es ++ fs) o o₂ t t₂
-all-append Full fs o₂ t₂ w v = v
-all-append (Done s) {q} {p} {es} fs o₂ t₂ w v = record {
+pub all-append : {s q p : Place} {es fs : List E} {o o₁ o₂ t t₁ t₂ : List ℕ} → KeptAll q p es o o₁ t t₁ → KeptAll s q fs o₁ o₂ t₁ t₂ → KeptAll s p (es ++ fs) o o₂ t t₂
+all-append {s} {q} {p} {es} {fs} w v = record {
   rows = omega (arith, w .rows, v .rows, sizes-append es fs);
   text = rw (texts-append es fs) (simp length-append (omega (arith, w .text, v .text)));
   words = v .words ∙ rw (w .words, w .text, packs-append (p .text) es fs, flats-append (packs (p .text) es) (packs (p .text + length (texts es)) fs)) (simp append-assoc);
   bytes = v .bytes ∙ rw (w .bytes, texts-append es fs) (simp append-assoc);
 }
 
--- ---- members of a chain
+-- some trees and a last one, closed: the chain that they make
+module _ {s p : Place} {es : List E} {o o₁ t t₁ : List ℕ} (w : KeptAll s p es o o₁ t t₁) (z : Snoc es) where
+  abbrev last-text : ℕ
+  last-text = p .text + length (texts (z .init))
 
-pub other-all : (t : Bytes) {w : List ℕ} {i k x y n : ℕ} {r : Expr Span} (b : Bin) (kind : ℕ) → Found w i k x y n → At w i r → (k ≡ kind → ⊥) → kind ≡ binKind b
-    → (a : Wrote) (p : Place) (o o′ u u′ : List ℕ) → KeptAnswer a p (rotate (resolve t r)) o o′ u u′ → AllAnswer a p (members b (resolve t r)) o o′ u u′
-other-all t {r} b kind f at ne e a p o o′ u u′ w =
-    rw (members-other t b r (λ h. ne (sym (f .kind) ∙ root at .kind ∙ h ∙ sym e))) (all-one a p (rotate (resolve t r)) o o′ u u′ w)
+  sizes-all : sizes es ≡ sizes (z .init) + size (z .last)
+  sizes-all = ap sizes (z .is) ∙ sizes-append (z .init) (z .last ∷ []) ∙ omega arith
 
-module _ (t : Bytes) {w : List ℕ} {i k x y n : ℕ} {r : Expr Span} (v : TwoView w i k x y n r) where
-  pub two-all : (b : Bin) (kind : ℕ) → k ≡ kind → kind ≡ binKind b → (a : Wrote) {q p : Place} {o o₁ u u₁ : List ℕ} (o₂ u₂ : List ℕ)
-      → KeptAll q p (members b (resolve t (v .left))) o o₁ u u₁ → AllAnswer a q (members b (resolve t (v .right))) o₁ o₂ u₁ u₂ → AllAnswer a p (members b (resolve t r)) o o₂ u u₂
-  two-all b kind e₀ e a {p} {o} {u} o₂ u₂ c d =
-      let s : resolve t r ≡ bin b (resolve t (v .left)) (resolve t (v .right)) = rw (v .is, bin-same (v .op) b (sym (v .kind) ∙ e₀ ∙ e)) in
-      rw (s, members-bin b (resolve t (v .left)) (resolve t (v .right))) (all-append a (members b (resolve t (v .right))) o₂ u₂ c d)
+  texts-all : texts es ≡ texts (z .init) ++ textOf (z .last)
+  texts-all = ap texts (z .is) ∙ texts-append (z .init) (z .last ∷ []) ∙ rw (append-nil (textOf (z .last)))
+
+  flats-all : flats (packs (p .text) es) ≡ flats (packs (p .text) (z .init)) ++ flat (packed last-text (z .last))
+  flats-all =
+      ap flats (ap (packs (p .text)) (z .is) ∙ packs-append (p .text) (z .init) (z .last ∷ [])) ∙ flats-append (packs (p .text) (z .init)) (packed last-text (z .last) ∷ [])
+      ∙ rw (append-nil (flat (packed last-text (z .last))))
+
+  pub all-forest : p .rows ≤ length o / 4 → Forest o₁ (s .rows) (take (p .rows * 4) o) (packs (p .text) (z .init)) (packed last-text (z .last))
+  all-forest h = record {
+    words = w .words ∙ rw flats-all;
+    place = omega (arith, w .rows, sizes-all, length-take-le (p .rows * 4) o (omega arith), sizes-packs (p .text) (z .init), size-packed last-text (z .last));
+  }
+
+  pub all-closed : p .rows ≤ length o / 4 → s .rows + length (z .init) ≤ length o₁ / 4 → (a : Wrote) (b : Bin) (o₂ : List ℕ)
+      → ClosedAnswer a s b (packs (p .text) (z .init)) (packed last-text (z .last)) o₁ o₂ → KeptAnswer a p (chain b (z .init) (z .last)) o o₂ t t₁
+  all-closed h l Full b o₂ c = c
+  all-closed h l (Done q) b o₂ c =
+      let m = length-packs (p .text) (z .init) in
+      let k = text-chain b (z .init) (z .last) in
+      record {
+        rows = omega (arith, c .rows, m, w .rows, sizes-all, size-chain b (z .init) (z .last));
+        text = c .text ∙ w .text ∙ rw (k, texts-all);
+        words = chain-stands (all-forest h) (omega (arith, m)) c ∙ rw (packed-chain (p .text) b (z .init) (z .last));
+        bytes = rw (c .text, k) (w .bytes ∙ rw texts-all);
+      }
+
+-- ---- a leaf, and a node with one child: the tree alone
+
+pub rotate-leaf : (t : Bytes) (r : Expr Span) → Leaf (shapeIn r) → rotate (resolve t r) ≡ resolve t r
+rotate-leaf t (lit k s) h = rotate-lit k _
+rotate-leaf t (fixed f) h = rotate-fixed f
+rotate-leaf t (skip ss) h = rotate-skip _
+rotate-leaf t (un u e) h = absurd h
+rotate-leaf t (bin b l r) h = absurd h
+
+by-alone : (t : Bytes) (kind : ℕ) (r : Expr Span) → (shapeIn r ≡ Two → ⊥) → rotate (resolve t r) ∷ [] ≡ membersOf kind (resolve t r)
+by-alone t kind (lit k s) h = sym (by-other kind _ (λ b e. refl))
+by-alone t kind (fixed f) h = sym (by-other kind _ (λ b e. refl))
+by-alone t kind (skip ss) h = sym (by-other kind _ (λ b e. refl))
+by-alone t kind (un u e) h = sym (by-other kind _ (λ b e. refl))
+by-alone t kind (bin b l r) h = absurd (h refl)
+
+leaf-not : {s : Shape} → Leaf s → s ≡ Two → ⊥
+leaf-not l e = subst Leaf e l
+
+pub leaf-all : (t : Bytes) (kind : ℕ) {w : List ℕ} {i k x y n : ℕ} {r : Expr Span} → Found w i k x y n → At w i r → {s : Shape} → shapeOf k ≡ s → Leaf s → (a : Wrote) (p : Place) (o o′ u u′ : List ℕ)
+    → KeptAnswer a p (resolve t r) o o′ u u′ → AllAnswer a p (membersOf kind (resolve t r)) o o′ u u′
+leaf-all t kind {r} g at h l a p o o′ u u′ c =
+    all-same a p o o′ u u′ (by-alone t kind r (leaf-not (subst Leaf (sym (found-shape g at h)) l)))
+    (all-one a p (rotate (resolve t r)) o o′ u u′ (leaf-kept rotate t (rotate-leaf t) g at h l a p o o′ u u′ c))
+
+-- a kind of one child is no chain's
+one-two : (k : ℕ) → shapeOf k ≡ One → (b : Bin) → k ≡ binKind b → ⊥
+one-two k h b e = let z : One ≡ Two = sym h ∙ ap shapeOf e ∙ bin-shape b in let y : _≡_ {A = ℕ} 0 1 = cc in omega arith
+
+pub child-kept : (k : ℕ) → shapeOf k ≡ One → (q p : Place) (e : E) (o o₁ u u₁ : List ℕ) → KeptAll q p (membersOf k e) o o₁ u u₁ → Kept q p (rotate e) o o₁ u u₁
+child-kept k h q p e o o₁ u u₁ c = one-all (Done q) p (rotate e) o o₁ u u₁ (all-same (Done q) p o o₁ u u₁ (by-other k e (λ b d. absurd (one-two k h b d))) c)
+
+rotate-most : (e : E) → size (rotate e) ≤ size e
+rotate-most e = omega (arith, rotate-size e)
+
+pub one-rotated : (t : Bytes) (kind : ℕ) {w : List ℕ} {i k x y n : ℕ} {r : Expr Span} (v : OneView w i k x y n r) {q p : Place} {o o₁ u u₁ : List ℕ} → Kept q p (rotate (resolve t (v .child))) o o₁ u u₁
+    → length o₁ ≡ length o → Fits p (resolve t r) o u → (a : Wrote) (o₂ : List ℕ) → RowAnswer a q (k, x, y) n o₁ o₂ → AllAnswer a p (membersOf kind (resolve t r)) o o₂ u u₁
+one-rotated t kind {r} v {q} {p} {o} {o₁} {u} {u₁} c lo h a o₂ g =
+    let e = resolve t (v .child) in
+    let s : shapeIn r ≡ One = ap shapeIn (v .is) in
+    all-same a p o o₂ u u₁ (by-alone t kind r (λ d. let z : One ≡ Two = sym s ∙ d in let y : _≡_ {A = ℕ} 0 1 = cc in omega arith))
+    (all-one a p (rotate (resolve t r)) o o₂ u u₁ (one-kept rotate rotate-most t v c lo h a _ o₂ (v .rows ∙ omega (arith, rotate-size e, size-resolve t (v .child))) (rotate-un (v .op) e) g))
+
+-- ---- a node with two children
+
+module _ (t : Bytes) {w : List ℕ} {i k x y n : ℕ} {r : Expr Span} (v : TwoView w i k x y n r) {p q : Place} {o o₁ u u₁ : List ℕ} (c : KeptAll q p (membersOf k (resolve t (v .left))) o o₁ u u₁)
+    (h : Fits p (resolve t r) o u) where
+  node-fits : Fits p (bin (v .op) (resolve t (v .left)) (resolve t (v .right))) o u
+  node-fits = rw (v .is) at h
+
+  first-all : KeptAll q p (members (v .op) (resolve t (v .left))) o o₁ u u₁
+  first-all = subst (λ (z : List E). KeptAll q p z o o₁ u u₁) (by-bin k (v .op) (resolve t (v .left)) (v .kind)) c
 
   -- after the left side's members there is room for the right side
-  module _ (b : Bin) {q p : Place} {o o₁ u u₁ : List ℕ} (c : KeptAll q p (members b (resolve t (v .left))) o o₁ u u₁) (h : Fits p (resolve t r) o u) where
-    node-fits : Fits p (bin (v .op) (resolve t (v .left)) (resolve t (v .right))) o u
-    node-fits = rw (v .is) at h
+  pub second-fits : length o₁ ≡ length o → length u₁ ≡ length u → Fits q (resolve t (v .right)) o₁ u₁
+  second-fits lo lu = let l = resolve t (v .left) in record {
+    rows = omega (arith, first-all .rows, node-fits .rows, members-size (v .op) l);
+    text = omega (arith, first-all .text, node-fits .text, ap length (members-text (v .op) l), length-append (textOf l) (textOf (resolve t (v .right))));
+  }
 
-    abbrev l : E
-    l = resolve t (v .left)
+  module _ {s : Place} {o₂ u₂ : List ℕ} (d : KeptAll s q (membersOf k (resolve t (v .right))) o₁ o₂ u₁ u₂) where
+    abbrev node : E
+    node = bin (v .op) (resolve t (v .left)) (resolve t (v .right))
 
-    abbrev g : E
-    g = resolve t (v .right)
+    pub both-all : KeptAll s p (members (v .op) node) o o₂ u u₂
+    both-all = subst (λ (z : List E). KeptAll s p z o o₂ u u₂) (sym (members-bin (v .op) (resolve t (v .left)) (resolve t (v .right))))
+        (all-append first-all (subst (λ (z : List E). KeptAll s q z o₁ o₂ u₁ u₂) (by-bin k (v .op) (resolve t (v .right)) (v .kind)) d))
 
-    pub second-fits : length o₁ ≡ length o → length u₁ ≡ length u → Fits q g o₁ u₁
-    second-fits lo lu = record {
-      rows = omega (arith, c .rows, node-fits .rows, members-size b l);
-      text = omega (arith, c .text, node-fits .text, ap length (members-text b l), length-append (textOf l) (textOf g));
+    -- in a chain of its kind: the members of both sides
+    pub same-all : (kind : ℕ) → k ≡ kind → AllAnswer (Done s) p (membersOf kind (resolve t r)) o o₂ u u₂
+    same-all kind e = subst (λ (z : E). AllAnswer (Done s) p (membersOf kind z) o o₂ u u₂) (sym (ap (resolve t) (v .is))) (all-same (Done s) p o o₂ u u₂ (sym (by-bin kind (v .op) node (sym e ∙ v .kind))) both-all)
+
+    abbrev ends : Snoc (members (v .op) node)
+    ends = as-snoc (members (v .op) node) (members-some (v .op) node)
+
+    -- the rows that are missing are as many as the members before the last
+    pub rows-missing : s .rows + length (ends .init) ≡ p .rows + n
+    rows-missing =
+        omega (arith, both-all .rows, members-size (v .op) node, ap length (ends .is), length-append (ends .init) (ends .last ∷ []), v .rows, size-resolve t (v .left), size-resolve t (v .right))
+
+    pub count-missing : length (packs (p .text) (ends .init)) ≡ p .rows + n - s .rows
+    count-missing = length-packs (p .text) (ends .init) ∙ omega (arith, rows-missing)
+
+    pub two-forest : Forest o₂ (s .rows) (take (p .rows * 4) o) (packs (p .text) (ends .init)) (packed (last-text both-all ends) (ends .last))
+    two-forest = all-forest both-all ends (omega (arith, node-fits .rows))
+
+    room : length o₂ ≡ length o → s .rows + length (ends .init) ≤ length o₂ / 4
+    room lo = omega (arith, rows-missing, node-fits .rows, v .rows, size-resolve t (v .left), size-resolve t (v .right))
+
+    pub two-closable : length o₂ ≡ length o → Areas o u → Closable o₂ (s .rows) (p .rows + n - s .rows)
+    two-closable lo a = record {
+      before = take (p .rows * 4) o;
+      trees = packs (p .text) (ends .init);
+      tree = packed (last-text both-all ends) (ends .last);
+      forest = two-forest;
+      count = count-missing;
+      room = omega (arith, room lo, rows-missing);
+      words = omega (arith, a .words);
     }
 
-    -- the members and the rotated right side, one after the other
-    module _ {s : Place} {o₂ u₂ : List ℕ} (d : Kept s q (rotate g) o₁ o₂ u₁ u₂) where
-      pub two-forest : Forest o₂ (s .rows) (take (p .rows * 4) o) (packs (p .text) (members b l)) (packed (q .text) (rotate g))
-      two-forest = record {
-        words = d .words ∙ rw (c .words) (append-assoc (take (p .rows * 4) o) (flats (packs (p .text) (members b l))) (flat (packed (q .text) (rotate g))));
-        place = omega (arith, c .rows, d .rows, length-take-le (p .rows * 4) o (omega (arith, node-fits .rows)), sizes-packs (p .text) (members b l), size-packed (q .text) (rotate g));
-      }
+    -- in no chain of its kind: the tree alone
+    pub two-rotated : (kind : ℕ) → (k ≡ kind → ⊥) → length o₂ ≡ length o → (a : Wrote) (o₃ : List ℕ)
+        → ClosedAnswer a s (v .op) (packs (p .text) (ends .init)) (packed (last-text both-all ends) (ends .last)) o₂ o₃ → AllAnswer a p (membersOf kind (resolve t r)) o o₃ u u₂
+    two-rotated kind ne lo a o₃ g =
+        let m : membersOf kind node ≡ rotate node ∷ [] = by-other kind node (λ b e. members-two (v .op) b _ _ (λ f. ne (v .kind ∙ sym (ap binKind f) ∙ sym e))) in
+        let z = all-closed both-all ends (omega (arith, node-fits .rows)) (room lo) a (v .op) o₃ g in
+        subst (λ (z : E). AllAnswer a p (membersOf kind z) o o₃ u u₂) (sym (ap (resolve t) (v .is)))
+        (all-same a p o o₃ u u₂ (sym m) (all-one a p (rotate node) o o₃ u u₂ (subst (λ (z : E). KeptAnswer a p z o o₃ u u₂) (sym (rotate-all (v .op) node ends)) z)))
 
-      -- the rows that are missing are as many as the members
-      pub two-count : s .rows + length (members b l) ≡ p .rows + n
-      two-count = omega (arith, c .rows, d .rows, members-size b l, rotate-size g, v .rows, size-resolve t (v .left), size-resolve t (v .right))
-
-      pub two-length : length (packs (p .text) (members b l)) ≡ p .rows + n - s .rows
-      two-length = length-packs (p .text) (members b l) ∙ omega (arith, two-count)
-
-      pub two-closable : length o₂ ≡ length o → Areas o u → Closable o₂ (s .rows) (p .rows + n - s .rows)
-      two-closable lo a = record {
-        before = take (p .rows * 4) o;
-        trees = packs (p .text) (members b l);
-        tree = packed (q .text) (rotate g);
-        forest = two-forest;
-        count = two-length;
-        room = omega (arith, two-count, node-fits .rows, v .rows, size-resolve t (v .left), size-resolve t (v .right));
-        words = omega (arith, a .words);
-      }
-
-      closed-kept : (b ≡ v .op) → length o₂ ≡ length o → (z : Wrote) (o₃ : List ℕ) → ClosedAnswer z s b (packs (p .text) (members b l)) (packed (q .text) (rotate g)) o₂ o₃ → KeptAnswer z p (rotate (bin b l g)) o o₃ u u₂
-      closed-kept e lo Full o₃ y = y
-      closed-kept e lo (Done z) o₃ y =
-          let m = length-packs (p .text) (members b l) in
-          let k : textOf (rotate (bin b l g)) ≡ texts (members b l) ++ textOf (rotate g) = rotate-text (bin b l g) ∙ rw (members-text b l, rotate-text g) in
-          record {
-            rows = omega (arith, y .rows, m, two-count, rotate-size (bin b l g), v .rows, size-resolve t (v .left), size-resolve t (v .right));
-            text = y .text ∙ rw k (simp length-append (omega (arith, c .text, d .text)));
-            words = chain-stands two-forest (omega (arith, m, two-count, node-fits .rows, v .rows, size-resolve t (v .left), size-resolve t (v .right))) y
-                ∙ rw (rotate-bin b l g, packed-chain (p .text) b (members b l) (rotate g), c .text);
-            bytes = rw (y .text, k) (d .bytes ∙ rw (c .bytes) (append-assoc (take (p .text) u) (texts (members b l)) (textOf (rotate g))));
-          }
-
-pub two-kept : (t : Bytes) {w : List ℕ} {i k x y n : ℕ} {r : Expr Span} (v : TwoView w i k x y n r) {q p s : Place} {o o₁ o₂ u u₁ u₂ : List ℕ}
-    (c : KeptAll q p (members (v .op) (resolve t (v .left))) o o₁ u u₁) (h : Fits p (resolve t r) o u) (d : Kept s q (rotate (resolve t (v .right))) o₁ o₂ u₁ u₂) → length o₂ ≡ length o → (z : Wrote) (o₃ : List ℕ)
-    → ClosedAnswer z s (v .op) (packs (p .text) (members (v .op) (resolve t (v .left)))) (packed (q .text) (rotate (resolve t (v .right)))) o₂ o₃ → KeptAnswer z p (rotate (resolve t r)) o o₃ u u₂
-two-kept t v c h d lo z o₃ y = rw (v .is) (closed-kept t v (v .op) c h d refl lo z o₃ y)
-
-pub rotate-most : (e : E) → size (rotate e) ≤ size e
-rotate-most e = omega (arith, rotate-size e)
+-- no chain's kind
+pub alone-kept : (a : Wrote) (p : Place) (e : E) (o o′ u u′ : List ℕ) → AllAnswer a p (membersOf 0 e) o o′ u u′ → KeptAnswer a p (rotate e) o o′ u u′
+unfolding membersOf
+alone-kept a p e o o′ u u′ c = one-all a p (rotate e) o o′ u u′ c

@@ -1,19 +1,20 @@
 -- Rotation by the members of a chain: the law that ties it to the definition, and what it keeps. Assumes nothing.
 use mathlib.Core.Path.{_≡_, refl, sym, ap, _∙_}
 use mathlib.Core.List.{List, [], _∷_, _++_, append-assoc, append-nil}
-use Prim.Native.Nat.{ℕ, _+_}
+use mathlib.Core.Bool.{Bool, true, false, cond}
+use Prim.Native.Nat.{ℕ, _+_, _<_}
 use native.Mathlib.Omega.{arith}
+use lib.Dec.{eqb}
 use lib.ListN.{length, length-append}
+use borrow.Author.Tests.{eqb-true}
 use Rattle.grammar.specs.Basic.{Bytes}
-use Rattle.grammar.specs.Tree.{Lit, Fixed, Un, Bin, Seq, Choice, binKind, Expr, E, lit, fixed, skip, un, bin, size}
-use Rattle.grammar.specs.Rows.{Span}
-use Rattle.grammar.specs.Text.{textOf, resolve}
+use Rattle.grammar.specs.Tree.{Lit, Fixed, Un, Bin, Seq, Choice, binKind, E, lit, fixed, skip, un, bin, size}
+use Rattle.grammar.specs.Text.{textOf}
 use Rattle.grammar.specs.Steps.{rotate}
 use Rattle.grammar.proofs.TopDown.{rotate-step}
-use Rattle.rows.proofs.Laws.{headOf}
 use Rattle.chains.specs.Chains.{chain, sizes, texts}
-use Rattle.chains.proofs.Trees.{chain-append, size-chain, text-chain, sizes-append, texts-append}
-use Rattle.rotator.specs.Members.{members}
+use Rattle.chains.proofs.Trees.{Snoc, chain-append, size-chain, text-chain, sizes-append, texts-append}
+use Rattle.rotator.specs.Members.{members, membersOf}
 
 -- rotation at each kind of node
 pub rotate-lit : (k : Lit) (s : Bytes) → rotate (lit k s) ≡ lit k s
@@ -52,15 +53,63 @@ pub members-bin : (b : Bin) (l r : E) → members b (bin b l r) ≡ members b l 
 members-bin Seq l r = refl
 members-bin Choice l r = refl
 
-pub members-other : (t : Bytes) (b : Bin) (r : Expr Span) → (headOf r .0 ≡ binKind b → ⊥) → members b (resolve t r) ≡ rotate (resolve t r) ∷ []
-members-other t b (lit k s) h = refl
-members-other t b (fixed f) h = refl
-members-other t b (skip ss) h = refl
-members-other t b (un u e) h = refl
-members-other t Seq (bin Seq l r) h = absurd (h refl)
-members-other t Seq (bin Choice l r) h = refl
-members-other t Choice (bin Seq l r) h = refl
-members-other t Choice (bin Choice l r) h = absurd (h refl)
+pub members-two : (b c : Bin) (l r : E) → (c ≡ b → ⊥) → members c (bin b l r) ≡ rotate (bin b l r) ∷ []
+members-two Seq Seq l r h = absurd (h refl)
+members-two Seq Choice l r h = refl
+members-two Choice Seq l r h = refl
+members-two Choice Choice l r h = absurd (h refl)
+
+pub members-some : (b : Bin) (e : E) → 0 < length (members b e)
+members-some b (lit k s) = omega arith
+members-some b (fixed f) = omega arith
+members-some b (skip ss) = omega arith
+members-some b (un u e) = omega arith
+members-some Seq (bin Seq l r) = omega (arith, length-append (members Seq l) (members Seq r), members-some Seq l)
+members-some Seq (bin Choice l r) = omega arith
+members-some Choice (bin Seq l r) = omega arith
+members-some Choice (bin Choice l r) = omega (arith, length-append (members Choice l) (members Choice r), members-some Choice l)
+
+-- a rotated tree is the chain of all its members: some, and then the last
+abbrev nestBy : Bin → List E → E
+nestBy b [] = skip []
+nestBy b (e ∷ []) = e
+nestBy b (e ∷ f ∷ es) = bin b e (nestBy b (f ∷ es))
+
+nest-after : (b : Bin) (xs ys : List E) → 0 < length ys → nestBy b (xs ++ ys) ≡ chain b xs (nestBy b ys)
+nest-after b [] ys h = refl
+nest-after b (x ∷ []) [] h = absurd (omega arith)
+nest-after b (x ∷ []) (y ∷ ys) h = refl
+nest-after b (x ∷ z ∷ xs) ys h = ap (bin b x) (nest-after b (z ∷ xs) ys h)
+
+rotate-nest : (b : Bin) (e : E) → rotate e ≡ nestBy b (members b e)
+rotate-nest b (lit k s) = refl
+rotate-nest b (fixed f) = refl
+rotate-nest b (skip ss) = refl
+rotate-nest b (un u e) = refl
+rotate-nest Seq (bin Seq l r) =
+    rotate-bin Seq l r ∙ ap (chain Seq (members Seq l)) (rotate-nest Seq r) ∙ sym (nest-after Seq (members Seq l) (members Seq r) (members-some Seq r))
+rotate-nest Seq (bin Choice l r) = refl
+rotate-nest Choice (bin Seq l r) = refl
+rotate-nest Choice (bin Choice l r) =
+    rotate-bin Choice l r ∙ ap (chain Choice (members Choice l)) (rotate-nest Choice r) ∙ sym (nest-after Choice (members Choice l) (members Choice r) (members-some Choice r))
+
+pub rotate-all : (b : Bin) (e : E) (z : Snoc (members b e)) → rotate e ≡ chain b (z .init) (z .last)
+rotate-all b e z = rotate-nest b e ∙ ap (nestBy b) (z .is) ∙ nest-after b (z .init) (z .last ∷ []) (omega arith)
+
+-- the members by a kind word
+pub by-bin : (k : ℕ) (b : Bin) (e : E) → k ≡ binKind b → membersOf k e ≡ members b e
+unfolding membersOf
+by-bin k Seq e h = rw h
+by-bin k Choice e h = rw h
+
+pub by-other : (k : ℕ) (e : E) → ((b : Bin) → k ≡ binKind b → members b e ≡ rotate e ∷ []) → membersOf k e ≡ rotate e ∷ []
+unfolding membersOf
+by-other k e h = go (eqb k 8) (eqb k 9) refl refl
+  where
+    go : (v w : Bool) → eqb k 8 ≡ v → eqb k 9 ≡ w → cond v (members Seq e) (cond w (members Choice e) (rotate e ∷ [])) ≡ rotate e ∷ []
+    go true w p q = h Seq (eqb-true k 8 p)
+    go false true p q = h Choice (eqb-true k 9 q)
+    go false false p q = refl
 
 -- rows and text are kept: of a tree as a whole, and of the members of any chain, whose closing rows are one less than they are
 record Keeps (e : E) : Type 0 where

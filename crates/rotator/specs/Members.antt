@@ -1,8 +1,10 @@
 -- The members of a chain, and what stands where they are written one after the other. Assumes nothing.
 use mathlib.Core.Path.{_≡_}
+use mathlib.Core.Bool.{cond}
 use mathlib.Core.List.{List, [], _∷_, _++_}
 use Prim.Native.Nat.{ℕ, _+_, _*_}
 use lib.ListN.{length, take}
+use lib.Dec.{eqb}
 use Rattle.grammar.specs.Tree.{Bin, Seq, Choice, E, lit, fixed, skip, un, bin}
 use Rattle.grammar.specs.Steps.{rotate}
 use Rattle.writing.specs.declared.Place.{Place}
@@ -20,6 +22,10 @@ members Seq (bin Seq l r) = members Seq l ++ members Seq r
 members Seq (bin Choice l r) = rotate (bin Choice l r) ∷ []
 members Choice (bin Seq l r) = rotate (bin Seq l r) ∷ []
 members Choice (bin Choice l r) = members Choice l ++ members Choice r
+
+-- the same by a node's kind word: 8 is Seq, 9 is Choice, and no chain has another
+unfoldable pub membersOf : ℕ → E → List E
+membersOf k e = cond (eqb k 8) (members Seq e) (cond (eqb k 9) (members Choice e) (rotate e ∷ []))
 
 -- the packed trees es stand from p to q, after what was there
 pub record KeptAll (q p : Place) (es : List E) (o o′ t t′ : List ℕ) : Type 0 where

@@ -1,22 +1,21 @@
 // Rotate: chains of Seq, and of Choice, nest to the right.
-ghost use mathlib.Core.Path.{_≡_};
 ghost use lib.ListN.{length};
-ghost use Rattle.grammar.specs.Tree.{Bin, binKind, Expr};
+ghost use Rattle.grammar.specs.Tree.{Expr};
 ghost use Rattle.grammar.specs.Rows.{Span};
 ghost use Rattle.grammar.specs.Text.{resolve};
 ghost use Rattle.grammar.specs.Steps.{rotate};
 ghost use Rattle.rows.specs.Rows.{Inside, At};
 ghost use Rattle.writing.specs.Writes.{Areas};
 ghost use Rattle.writing.specs.Keeps.{KeptAnswer, Ready};
-ghost use Rattle.chains.specs.Chains.{IsBin};
-ghost use Rattle.rotator.specs.Members.{members, AllAnswer};
+ghost use Rattle.rotator.specs.Members.{membersOf, AllAnswer};
 use rows::Lookup;
 use rows::Shape;
 use writing::Place;
 use writing::Wrote;
 
-// Writes the members of the chain of `kind` at row `root`, each rotated, one after the other from p on.
-fn emit(
+// Writes the subtree of row `root`, which fits, at p, its literals packed: the rotated tree, or, where the root is a node of the
+// chain of `kind`, its members, each rotated, one after the other.
+fn walk(
     rows: &[u32],
     text: &[u8],
     root: usize,
@@ -28,35 +27,52 @@ fn emit(
     requires { ⌜ Inside (now rows) (length (now text)) ⌝ }
     requires { ⌜ Ready (now rows) (now text) root p (now out) (now lits) ⌝ }
     requires { ⌜ Areas (now out) (now lits) ⌝ }
-    requires { ⌜ IsBin kind ⌝ }
-    ensures { λ a. ⌜ ((b : Bin) (r : Expr Span) → kind ≡ binKind b → At (now (rows .entry)) root r → AllAnswer a p (members b (resolve (now (text .entry)) r)) (now (out .entry)) (now (out .exit)) (now (lits .entry)) (now (lits .exit))) ⌝ }
+    ensures { λ a. ⌜ ((r : Expr Span) → At (now (rows .entry)) root r → AllAnswer a p (membersOf kind (resolve (now (text .entry)) r)) (now (out .entry)) (now (out .exit)) (now (lits .entry)) (now (lits .exit))) ⌝ }
 {
     let Lookup::Row {
         kind: k,
-        x: _,
-        y: _,
-        size: _,
+        x,
+        y,
+        size,
     } = rows::row_at(rows, root)
     else {
         return Wrote::Full;
     };
-    if k != kind {
-        return rotate(rows, text, root, out, lits, p);
+    match rows::shape_of(k) {
+        Shape::Lit => writing::put_lit(text, x as usize, y as usize, k, out, lits, p),
+        Shape::Num => writing::put_row(out, p, k, x, y, 1),
+        Shape::Skips => writing::keep(rows, text, root, out, lits, p),
+        Shape::One => {
+            let Wrote::Done(q) = walk(rows, text, root - 1, k, out, lits, p) else {
+                return Wrote::Full;
+            };
+            writing::put_row(out, q, k, x, y, size)
+        }
+        Shape::Two => {
+            // there are as many rows as before: those that are missing in the end close the chain
+            let end = p.rows + size as usize;
+            let right = root - 1;
+            let Lookup::Row {
+                kind: _,
+                x: _,
+                y: _,
+                size: n,
+            } = rows::row_at(rows, right)
+            else {
+                return Wrote::Full;
+            };
+            let Wrote::Done(q) = walk(rows, text, right - n as usize, k, out, lits, p) else {
+                return Wrote::Full;
+            };
+            let Wrote::Done(s) = walk(rows, text, right, k, out, lits, q) else {
+                return Wrote::Full;
+            };
+            if k == kind {
+                return Wrote::Done(s);
+            }
+            chains::close(out, s, k, end - s.rows)
+        }
     }
-    let right = root - 1;
-    let Lookup::Row {
-        kind: _,
-        x: _,
-        y: _,
-        size: n,
-    } = rows::row_at(rows, right)
-    else {
-        return Wrote::Full;
-    };
-    let Wrote::Done(q) = emit(rows, text, right - n as usize, kind, out, lits, p) else {
-        return Wrote::Full;
-    };
-    emit(rows, text, right, kind, out, lits, q)
 }
 
 // Writes the rotated subtree of row `root`, which fits, at p, its literals packed.
@@ -73,39 +89,6 @@ pub fn rotate(
     requires { ⌜ Areas (now out) (now lits) ⌝ }
     ensures { λ a. ⌜ ((r : Expr Span) → At (now (rows .entry)) root r → KeptAnswer a p (rotate (resolve (now (text .entry)) r)) (now (out .entry)) (now (out .exit)) (now (lits .entry)) (now (lits .exit))) ⌝ }
 {
-    let Lookup::Row { kind, x, y, size } = rows::row_at(rows, root) else {
-        return Wrote::Full;
-    };
-    match rows::shape_of(kind) {
-        Shape::Lit => writing::keep(rows, text, root, out, lits, p),
-        Shape::Num => writing::keep(rows, text, root, out, lits, p),
-        Shape::Skips => writing::keep(rows, text, root, out, lits, p),
-        Shape::One => {
-            let Wrote::Done(q) = rotate(rows, text, root - 1, out, lits, p) else {
-                return Wrote::Full;
-            };
-            writing::put_row(out, q, kind, x, y, size)
-        }
-        Shape::Two => {
-            // there are as many rows as before: those that are missing in the end close the chain
-            let end = p.rows + size as usize;
-            let right = root - 1;
-            let Lookup::Row {
-                kind: _,
-                x: _,
-                y: _,
-                size: n,
-            } = rows::row_at(rows, right)
-            else {
-                return Wrote::Full;
-            };
-            let Wrote::Done(q) = emit(rows, text, right - n as usize, kind, out, lits, p) else {
-                return Wrote::Full;
-            };
-            let Wrote::Done(s) = rotate(rows, text, right, out, lits, q) else {
-                return Wrote::Full;
-            };
-            chains::close(out, s, kind, end - s.rows)
-        }
-    }
+    // in no chain
+    walk(rows, text, root, 0, out, lits, p)
 }

@@ -1,9 +1,9 @@
 -- Copies of a tree that stands in the areas themselves, and trees laid one after another. Assumes nothing.
 use mathlib.Core.Path.{_≡_}
+use mathlib.Core.Bool.{false}
 use mathlib.Core.List.{List, [], _++_}
 use Prim.Native.Nat.{ℕ, zero, suc, _+_, _-_, _*_, _/_, _^_, _≤_, _<_}
 use lib.ListN.{length}
-use mathlib.Core.Bool.{false}
 use Rattle.grammar.specs.Tree.{Head, Un, E, unHead, size}
 use Rattle.grammar.specs.Rows.{row}
 use Rattle.grammar.specs.Text.{bytesAt, textOf, packed}
@@ -19,7 +19,7 @@ use Rattle.unroller.specs.declared.Items.{Items}
 use Rattle.unroller.specs.Items.{itemOf, itemsOf, countOf}
 use Rattle.writing.specs.Writes.{Areas, Fit, Put, Fits}
 
--- the x word of a row moved with its text by d: an offset moves, a number does not
+-- the x word of a row that is moved with its text by d: an offset moves, a number does not
 abbrev pub movedBy : Shape → ℕ → ℕ → ℕ
 movedBy Lit d x = x + d
 movedBy Num d x = x
@@ -27,6 +27,7 @@ movedBy One d x = x
 movedBy Two d x = x
 movedBy Skips d x = x
 
+-- row i, moved by d
 unfoldable pub movedRow : ℕ → List ℕ → ℕ → List ℕ
 movedRow d w i = row (kindAt w i, movedBy (shapeOf (kindAt w i)) d (xAt w i), yAt w i) (sizeAt w i)
 

@@ -37,6 +37,7 @@ pub struct Split {
     pub rest: Items,
 }
 
+// So many of each item.
 fn counts(plain: usize, opts: usize, reps: usize) -> Items
     ensures { λ r. ⌜ r ≡ items plain opts reps ⌝ }
 {

@@ -9,10 +9,11 @@ use Rattle.grammar.specs.Table.{Atomic}
 use Rattle.grammar.specs.Steps.{concatenate}
 use Rattle.rows.specs.Rows.{At, sizeAt}
 use Rattle.rows.proofs.Laws.{Found, found-size, row-found, root-there}
-use Rattle.rows.proofs.Views.{OneView, TwoView, as-one, as-two, left-at}
+use Rattle.rows.proofs.Cells.{in-text}
+use Rattle.rows.proofs.Views.{OneView, TwoView, as-lit, as-num, as-one, as-two, left-at}
 use Rattle.writing.specs.Keeps.{Kept}
-use Rattle.writing.proofs.Keeps.{kept-done, kept-full, ready-fits, ready-child, ready-left}
-use Rattle.chains.proofs.Walks.{one-falls, right-falls, left-falls, leaf-kept, one-room, one-kept}
+use Rattle.writing.proofs.Keeps.{fits-room, kept-done, kept-full, ready-fits, ready-child, ready-left}
+use Rattle.chains.proofs.Walks.{one-falls, right-falls, left-falls, leaf-kept, lit-kept, num-kept, one-room, one-kept}
 use Rattle.concatenator.proofs.Concats.{concat-un, concat-size}
 use Rattle.concatenator.proofs.Nodes.{concat-leaf, second-fits, two-order, two-kept}
 use borrow.Author.Needs.{needs}
@@ -26,6 +27,7 @@ use Rattle.concatenator.proofs.finish.Reads as finish-reads
 use Rattle.rows.proofs.row_at.Reads as row-at-reads
 use Rattle.rows.proofs.shape_of.Reads as shape-of-reads
 use Rattle.writing.proofs.keep.Reads as keep-reads
+use Rattle.writing.proofs.put_lit.Reads as put-lit-reads
 use Rattle.writing.proofs.put_row.Reads as put-row-reads
 use Rattle.concatenator.proofs.+bottom_up.{statement}
 use Rattle.concatenator.proofs.+bottom_up.Tie.{close}
@@ -41,7 +43,7 @@ bottom-up-below t =
     and 4 bottom-up-kinds.ps (falls 4 bottom-up-kinds.ps _<_ μ-bottom-up t) bottom-up.Pre
 
 abbrev calls-bottom-up : ℕ → bottom-up-lts.Claims
-calls-bottom-up t = (row-at-reads.Asked, row-at-reads.Learnt, shape-of-reads.Asked, shape-of-reads.Learnt, keep-reads.Asked, keep-reads.Learnt, bottom-up-below t, bottom-up.Post, put-row-reads.Asked, put-row-reads.Learnt, finish-reads.Asked, finish-reads.Learnt)
+calls-bottom-up t = (row-at-reads.Asked, row-at-reads.Learnt, shape-of-reads.Asked, shape-of-reads.Learnt, put-lit-reads.Asked, put-lit-reads.Learnt, put-row-reads.Asked, put-row-reads.Learnt, keep-reads.Asked, keep-reads.Learnt, bottom-up-below t, bottom-up.Post, finish-reads.Asked, finish-reads.Learnt)
 
 abbrev cat : E → E
 cat e = concatenate Atomic e
@@ -90,20 +92,26 @@ bottom-up-shape-of-requires t c κs = search needs
 bottom-up-enum-told-2 : (t : ℕ) → bottom-up-lts.Need-enum-told-2 (calls-bottom-up t) (bottom-up-at t) bottom-up.Post
 bottom-up-enum-told-2 t c = search needs
 
-bottom-up-keep-requires : (t : ℕ) → bottom-up-lts.Need-keep-requires (calls-bottom-up t) (bottom-up-at t) bottom-up.Post
-bottom-up-keep-requires t c κs = c .before .before .before .before .before .before .before .before .before .before .before .before .before .pre .1
+bottom-up-cast-put-lit : (t : ℕ) → bottom-up-lts.Need-cast-put-lit (calls-bottom-up t) (bottom-up-at t) bottom-up.Post
+bottom-up-cast-put-lit t c = search needs
+
+bottom-up-cast-put-lit-2 : (t : ℕ) → bottom-up-lts.Need-cast-put-lit-2 (calls-bottom-up t) (bottom-up-at t) bottom-up.Post
+bottom-up-cast-put-lit-2 t c = search needs
+
+bottom-up-put-lit-requires : (t : ℕ) → bottom-up-lts.Need-put-lit-requires (calls-bottom-up t) (bottom-up-at t) bottom-up.Post
+bottom-up-put-lit-requires t c κs = (in-text _ (c .before .before .before .before .before .before .before .before .before .before .before .before .before .pre .1 .0) (read t (c .before .before .before .before .before)) (sym (c .before .before .before .before .shape-of .ensures) ∙ c .before .before .enum-told2 .given .1), fits-room (c .before .before .before .before .before .before .before .before .before .before .before .before .before .pre .1 .1 .0 .fits) (c .before .before .before .before .before .before .before .before .before .before .before .before .before .pre .1 .1 .1))
 
 bottom-up-enum-told-3 : (t : ℕ) → bottom-up-lts.Need-enum-told-3 (calls-bottom-up t) (bottom-up-at t) bottom-up.Post
 bottom-up-enum-told-3 t c = search needs
 
-bottom-up-keep-requires-2 : (t : ℕ) → bottom-up-lts.Need-keep-requires-2 (calls-bottom-up t) (bottom-up-at t) bottom-up.Post
-bottom-up-keep-requires-2 t c κs = c .before .before .before .before .before .before .before .before .before .before .before .before .before .pre .1
+bottom-up-put-row-requires : (t : ℕ) → bottom-up-lts.Need-put-row-requires (calls-bottom-up t) (bottom-up-at t) bottom-up.Post
+bottom-up-put-row-requires t c κs = search needs
 
 bottom-up-enum-told-4 : (t : ℕ) → bottom-up-lts.Need-enum-told-4 (calls-bottom-up t) (bottom-up-at t) bottom-up.Post
 bottom-up-enum-told-4 t c = search needs
 
-bottom-up-keep-requires-3 : (t : ℕ) → bottom-up-lts.Need-keep-requires-3 (calls-bottom-up t) (bottom-up-at t) bottom-up.Post
-bottom-up-keep-requires-3 t c κs = c .before .before .before .before .before .before .before .before .before .before .before .before .before .pre .1
+bottom-up-keep-requires : (t : ℕ) → bottom-up-lts.Need-keep-requires (calls-bottom-up t) (bottom-up-at t) bottom-up.Post
+bottom-up-keep-requires t c κs = c .before .before .before .before .before .before .before .before .before .before .before .before .before .pre .1
 
 bottom-up-enum-told-5 : (t : ℕ) → bottom-up-lts.Need-enum-told-5 (calls-bottom-up t) (bottom-up-at t) bottom-up.Post
 bottom-up-enum-told-5 t c = search needs
@@ -138,8 +146,8 @@ bottom-up-add-put-row t c = let d = c .before .before .before .before .before .b
 bottom-up-cast-put-row : (t : ℕ) → bottom-up-lts.Need-cast-put-row (calls-bottom-up t) (bottom-up-at t) bottom-up.Post
 bottom-up-cast-put-row t c = let d = c .before .before .before .before .before .before .before .before .before .before .before .before .before .before .before .before .before .before .before .before .before .before .before .before .pre .1 .1 .0 in let v = one-view t (c .before .before .before .before .before .before .before .before .before .before .before .before .before) (d .tree) (d .at) in let h = child-kept t (c .before .before .before) (d .tree) (d .at) in let g = one-room cat concat-size (c .before .before .before .before .before .before .before .before .before .before .before .before .before .before .before .before .before .before .before .before .before .before .before .before .args .text .now) v h (c .before .before .before .before .before .before .before .before .before .before .bottom-up .kept .1 .1 .1 .0) (d .fits) in omega (arith, g, c .before .before .before .before .before .before .before .before .before .before .before .before .before .before .before .before .before .before .before .before .before .before .before .before .pre .1 .1 .1 .words, c .before .before .before .before .before .before .before .before .before .before .bottom-up .kept .1 .1 .1 .0)
 
-bottom-up-put-row-requires : (t : ℕ) → bottom-up-lts.Need-put-row-requires (calls-bottom-up t) (bottom-up-at t) bottom-up.Post
-bottom-up-put-row-requires t c κs = search needs
+bottom-up-put-row-requires-2 : (t : ℕ) → bottom-up-lts.Need-put-row-requires-2 (calls-bottom-up t) (bottom-up-at t) bottom-up.Post
+bottom-up-put-row-requires-2 t c κs = search needs
 
 bottom-up-enum-told-7 : (t : ℕ) → bottom-up-lts.Need-enum-told-7 (calls-bottom-up t) (bottom-up-at t) bottom-up.Post
 bottom-up-enum-told-7 t c = search needs
@@ -211,40 +219,37 @@ bottom-up-same-length-8 : (t : ℕ) → bottom-up-lts.Need-same-length-8 (calls-
 bottom-up-same-length-8 t c = search needs
 
 bottom-up-returns-6 : (t : ℕ) → bottom-up-lts.Need-returns-6 (calls-bottom-up t) (bottom-up-at t) bottom-up.Post
-bottom-up-returns-6 t c = λ r a. leaf-kept cat (c .before .before .before .before .before .before .before .before .before .before .before .before .before .before .before .before .before .before .args .text .now) (concat-leaf (c .before .before .before .before .before .before .before .before .before .before .before .before .before .before .before .before .before .before .args .text .now)) (read t (c .before .before .before .before .before .before .before .before .before .before)) a (sym (c .before .before .before .before .before .before .before .before .before .shape-of .ensures) ∙ c .before .before .before .before .before .before .before .enum-told2 .given .1) tt (c .before .before .before .before .keep .result) (c .before .before .before .before .before .before .before .before .before .before .before .before .before .before .before .before .before .before .args .p) (c .before .before .before .before .before .before .before .before .before .before .before .before .before .before .before .before .before .before .args .out .now) (c .before .before .before .before .keep .last .1 .1 .1 .0) (c .before .before .before .before .before .before .before .before .before .before .before .before .before .before .before .before .before .before .args .lits .now) (c .before .before .before .before .keep .last .1 .1 .1 .1 .0) (c .before .before .before .before .keep .ensures r a)
+bottom-up-returns-6 t c = λ r a. let f = ready-fits (c .before .before .before .before .before .before .before .before .before .before .before .before .before .before .before .before .before .before .pre .1 .1 .0) r a in let s = sym (c .before .before .before .before .before .before .before .before .before .shape-of .ensures) ∙ c .before .before .before .before .before .before .before .enum-told2 .given .1 in leaf-kept cat (c .before .before .before .before .before .before .before .before .before .before .before .before .before .before .before .before .before .before .args .text .now) (concat-leaf (c .before .before .before .before .before .before .before .before .before .before .before .before .before .before .before .before .before .before .args .text .now)) (read t (c .before .before .before .before .before .before .before .before .before .before)) a s tt (c .before .before .before .before .put-lit .result) (c .before .before .before .before .before .before .before .before .before .before .before .before .before .before .before .before .before .before .args .p) (c .before .before .before .before .before .before .before .before .before .before .before .before .before .before .before .before .before .before .args .out .now) (c .before .before .before .before .put-lit .last .1 .1 .1 .1 .0) (c .before .before .before .before .before .before .before .before .before .before .before .before .before .before .before .before .before .before .args .lits .now) (c .before .before .before .before .put-lit .last .1 .1 .1 .1 .1 .0) (lit-kept (c .before .before .before .before .before .before .before .before .before .before .before .before .before .before .before .before .before .before .args .text .now) (c .before .before .before .before .put-lit .result) (c .before .before .before .before .before .before .before .before .before .before .before .before .before .before .before .before .before .before .args .p) (c .before .before .before .before .before .before .before .before .before .before .before .before .before .before .before .before .before .before .args .out .now) (c .before .before .before .before .put-lit .last .1 .1 .1 .1 .0) (c .before .before .before .before .before .before .before .before .before .before .before .before .before .before .before .before .before .before .args .lits .now) f (as-lit (read t (c .before .before .before .before .before .before .before .before .before .before)) a s) (c .before .before .before .before .put-lit .last .1 .1 .1 .1 .1 .0) (c .before .before .before .before .put-lit .ensures))
 
 bottom-up-same-length-9 : (t : ℕ) → bottom-up-lts.Need-same-length-9 (calls-bottom-up t) (bottom-up-at t) bottom-up.Post
 bottom-up-same-length-9 t c = search needs
 
+bottom-up-returns-7 : (t : ℕ) → bottom-up-lts.Need-returns-7 (calls-bottom-up t) (bottom-up-at t) bottom-up.Post
+bottom-up-returns-7 t c = λ r a. let f = ready-fits (c .before .before .before .before .before .before .before .before .before .before .before .before .before .before .before .pre .1 .1 .0) r a in let s = sym (c .before .before .before .before .before .before .shape-of .ensures) ∙ c .before .before .before .before .enum-told3 .given .1 in leaf-kept cat (c .before .before .before .before .before .before .before .before .before .before .before .before .before .before .before .args .text .now) (concat-leaf (c .before .before .before .before .before .before .before .before .before .before .before .before .before .before .before .args .text .now)) (read t (c .before .before .before .before .before .before .before)) a s tt (c .before .before .put-row .result) (c .before .before .before .before .before .before .before .before .before .before .before .before .before .before .before .args .p) (c .before .before .before .before .before .before .before .before .before .before .before .before .before .before .before .args .out .now) (c .before .before .put-row .last .0) (c .before .before .before .before .before .before .before .before .before .before .before .before .before .before .before .args .lits .now) (c .before .before .before .before .before .before .before .before .before .before .before .before .before .before .before .args .lits .now) (num-kept (c .before .before .before .before .before .before .before .before .before .before .before .before .before .before .before .args .text .now) (c .before .before .put-row .result) (c .before .before .before .before .before .before .before .before .before .before .before .before .before .before .before .args .p) (c .before .before .before .before .before .before .before .before .before .before .before .before .before .before .before .args .out .now) (c .before .before .put-row .last .0) (c .before .before .before .before .before .before .before .before .before .before .before .before .before .before .before .args .lits .now) f (as-num (read t (c .before .before .before .before .before .before .before)) a s) (c .before .before .put-row .ensures))
+
 bottom-up-same-length-10 : (t : ℕ) → bottom-up-lts.Need-same-length-10 (calls-bottom-up t) (bottom-up-at t) bottom-up.Post
 bottom-up-same-length-10 t c = search needs
-
-bottom-up-returns-7 : (t : ℕ) → bottom-up-lts.Need-returns-7 (calls-bottom-up t) (bottom-up-at t) bottom-up.Post
-bottom-up-returns-7 t c = λ r a. leaf-kept cat (c .before .before .before .before .before .before .before .before .before .before .before .before .before .before .before .before .before .before .args .text .now) (concat-leaf (c .before .before .before .before .before .before .before .before .before .before .before .before .before .before .before .before .before .before .args .text .now)) (read t (c .before .before .before .before .before .before .before .before .before .before)) a (sym (c .before .before .before .before .before .before .before .before .before .shape-of .ensures) ∙ c .before .before .before .before .before .before .before .enum-told3 .given .1) tt (c .before .before .before .before .keep2 .result) (c .before .before .before .before .before .before .before .before .before .before .before .before .before .before .before .before .before .before .args .p) (c .before .before .before .before .before .before .before .before .before .before .before .before .before .before .before .before .before .before .args .out .now) (c .before .before .before .before .keep2 .last .1 .1 .1 .0) (c .before .before .before .before .before .before .before .before .before .before .before .before .before .before .before .before .before .before .args .lits .now) (c .before .before .before .before .keep2 .last .1 .1 .1 .1 .0) (c .before .before .before .before .keep2 .ensures r a)
 
 bottom-up-same-length-11 : (t : ℕ) → bottom-up-lts.Need-same-length-11 (calls-bottom-up t) (bottom-up-at t) bottom-up.Post
 bottom-up-same-length-11 t c = search needs
 
+bottom-up-returns-8 : (t : ℕ) → bottom-up-lts.Need-returns-8 (calls-bottom-up t) (bottom-up-at t) bottom-up.Post
+bottom-up-returns-8 t c = λ r a. let f = ready-fits (c .before .before .before .before .before .before .before .before .before .before .before .before .before .before .before .before .before .before .pre .1 .1 .0) r a in let s = sym (c .before .before .before .before .before .before .before .before .before .shape-of .ensures) ∙ c .before .before .before .before .before .before .before .enum-told4 .given .1 in leaf-kept cat (c .before .before .before .before .before .before .before .before .before .before .before .before .before .before .before .before .before .before .args .text .now) (concat-leaf (c .before .before .before .before .before .before .before .before .before .before .before .before .before .before .before .before .before .before .args .text .now)) (read t (c .before .before .before .before .before .before .before .before .before .before)) a s tt (c .before .before .before .before .keep .result) (c .before .before .before .before .before .before .before .before .before .before .before .before .before .before .before .before .before .before .args .p) (c .before .before .before .before .before .before .before .before .before .before .before .before .before .before .before .before .before .before .args .out .now) (c .before .before .before .before .keep .last .1 .1 .1 .0) (c .before .before .before .before .before .before .before .before .before .before .before .before .before .before .before .before .before .before .args .lits .now) (c .before .before .before .before .keep .last .1 .1 .1 .1 .0) (c .before .before .before .before .keep .ensures r a)
+
 bottom-up-same-length-12 : (t : ℕ) → bottom-up-lts.Need-same-length-12 (calls-bottom-up t) (bottom-up-at t) bottom-up.Post
 bottom-up-same-length-12 t c = search needs
-
-bottom-up-returns-8 : (t : ℕ) → bottom-up-lts.Need-returns-8 (calls-bottom-up t) (bottom-up-at t) bottom-up.Post
-bottom-up-returns-8 t c = λ r a. leaf-kept cat (c .before .before .before .before .before .before .before .before .before .before .before .before .before .before .before .before .before .before .args .text .now) (concat-leaf (c .before .before .before .before .before .before .before .before .before .before .before .before .before .before .before .before .before .before .args .text .now)) (read t (c .before .before .before .before .before .before .before .before .before .before)) a (sym (c .before .before .before .before .before .before .before .before .before .shape-of .ensures) ∙ c .before .before .before .before .before .before .before .enum-told4 .given .1) tt (c .before .before .before .before .keep3 .result) (c .before .before .before .before .before .before .before .before .before .before .before .before .before .before .before .before .before .before .args .p) (c .before .before .before .before .before .before .before .before .before .before .before .before .before .before .before .before .before .before .args .out .now) (c .before .before .before .before .keep3 .last .1 .1 .1 .0) (c .before .before .before .before .before .before .before .before .before .before .before .before .before .before .before .before .before .before .args .lits .now) (c .before .before .before .before .keep3 .last .1 .1 .1 .1 .0) (c .before .before .before .before .keep3 .ensures r a)
 
 bottom-up-same-length-13 : (t : ℕ) → bottom-up-lts.Need-same-length-13 (calls-bottom-up t) (bottom-up-at t) bottom-up.Post
 bottom-up-same-length-13 t c = search needs
 
+bottom-up-returns-9 : (t : ℕ) → bottom-up-lts.Need-returns-9 (calls-bottom-up t) (bottom-up-at t) bottom-up.Post
+bottom-up-returns-9 t c = λ r a. let v = one-view t (c .before .before .before .before .before .before .before .before .before .before .before .before .before .before .before .before) r a in let h = child-kept t (c .before .before .before .before .before .before) r a in one-kept cat concat-size (c .before .before .before .before .before .before .before .before .before .before .before .before .before .before .before .before .before .before .before .before .before .before .before .before .before .before .before .args .text .now) v h (c .before .before .before .before .before .before .before .before .before .before .before .before .before .bottom-up .kept .1 .1 .1 .0) (ready-fits (c .before .before .before .before .before .before .before .before .before .before .before .before .before .before .before .before .before .before .before .before .before .before .before .before .before .before .before .pre .1 .1 .0) r a) (c .before .before .put-row2 .result) (c .before .before .before .before .before .before .before .q .given .0 .0 .rows - c .before .before .before .before .before .before .before .before .before .before .before .before .before .before .before .before .before .before .before .before .before .before .before .before .before .before .before .args .p .rows + 1) (c .before .before .put-row2 .last .0) (omega (arith, h .rows)) (concat-un (v .op) (resolve (c .before .before .before .before .before .before .before .before .before .before .before .before .before .before .before .before .before .before .before .before .before .before .before .before .before .before .before .args .text .now) (v .child))) (c .before .before .put-row2 .ensures)
+
 bottom-up-same-length-14 : (t : ℕ) → bottom-up-lts.Need-same-length-14 (calls-bottom-up t) (bottom-up-at t) bottom-up.Post
 bottom-up-same-length-14 t c = search needs
 
-bottom-up-returns-9 : (t : ℕ) → bottom-up-lts.Need-returns-9 (calls-bottom-up t) (bottom-up-at t) bottom-up.Post
-bottom-up-returns-9 t c = λ r a. let v = one-view t (c .before .before .before .before .before .before .before .before .before .before .before .before .before .before .before .before) r a in let h = child-kept t (c .before .before .before .before .before .before) r a in one-kept cat concat-size (c .before .before .before .before .before .before .before .before .before .before .before .before .before .before .before .before .before .before .before .before .before .before .before .before .before .before .before .args .text .now) v h (c .before .before .before .before .before .before .before .before .before .before .before .before .before .bottom-up .kept .1 .1 .1 .0) (ready-fits (c .before .before .before .before .before .before .before .before .before .before .before .before .before .before .before .before .before .before .before .before .before .before .before .before .before .before .before .pre .1 .1 .0) r a) (c .before .before .put-row .result) (c .before .before .before .before .before .before .before .q .given .0 .0 .rows - c .before .before .before .before .before .before .before .before .before .before .before .before .before .before .before .before .before .before .before .before .before .before .before .before .before .before .before .args .p .rows + 1) (c .before .before .put-row .last .0) (omega (arith, h .rows)) (concat-un (v .op) (resolve (c .before .before .before .before .before .before .before .before .before .before .before .before .before .before .before .before .before .before .before .before .before .before .before .before .before .before .before .args .text .now) (v .child))) (c .before .before .put-row .ensures)
-
 bottom-up-same-length-15 : (t : ℕ) → bottom-up-lts.Need-same-length-15 (calls-bottom-up t) (bottom-up-at t) bottom-up.Post
 bottom-up-same-length-15 t c = search needs
-
-bottom-up-same-length-16 : (t : ℕ) → bottom-up-lts.Need-same-length-16 (calls-bottom-up t) (bottom-up-at t) bottom-up.Post
-bottom-up-same-length-16 t c = search needs
 
 bottom-up-returns-10 : (t : ℕ) → bottom-up-lts.Need-returns-10 (calls-bottom-up t) (bottom-up-at t) bottom-up.Post
 bottom-up-returns-10 t c = λ r a. let v = two-view t (c .before .before .before .before .before .before .before .before .before .before .before .before .before .before .before .before .before .before .before .before .before .before .before .before .before .before .before .before) r a in let k = c .before .before .before .before .before .before .before .before .before .before .before .before .before .before .before .before .before .before .before .before .before .bottom-up2 .kept .1 .1 .1 in two-kept (c .before .before .before .before .before .before .before .before .before .before .before .before .before .before .before .before .before .before .before .before .before .before .before .before .before .before .before .before .before .before .before .before .before .before .before .before .before .before .before .args .text .now) v (first-kept t (c .before .before .before .before .before .before .before .before .before .before .before .before .before .before) r a) (k .0) (k .1 .0) (ready-fits (c .before .before .before .before .before .before .before .before .before .before .before .before .before .before .before .before .before .before .before .before .before .before .before .before .before .before .before .before .before .before .before .before .before .before .before .before .before .before .before .pre .1 .1 .0) r a) (second-kept t (c .before .before .before .before) r a) (c .before .before .before .before .before .before .before .before .before .before .before .bottom-up3 .kept .1 .1 .1 .0) (c .before .before .finish .result) (c .before .before .finish .last .0) (c .before .before .finish .ensures)
@@ -259,11 +264,13 @@ pub +bottom-up-spec : {M : Type 1} → statement M
     (bottom-up-returns t)
     (bottom-up-shape-of-requires t)
     (bottom-up-enum-told-2 t)
-    (bottom-up-keep-requires t)
+    (bottom-up-cast-put-lit t)
+    (bottom-up-cast-put-lit-2 t)
+    (bottom-up-put-lit-requires t)
     (bottom-up-enum-told-3 t)
-    (bottom-up-keep-requires-2 t)
+    (bottom-up-put-row-requires t)
     (bottom-up-enum-told-4 t)
-    (bottom-up-keep-requires-3 t)
+    (bottom-up-keep-requires t)
     (bottom-up-enum-told-5 t)
     (bottom-up-sub-bottom-up t)
     (bottom-up-bottom-up-requires t)
@@ -275,7 +282,7 @@ pub +bottom-up-spec : {M : Type 1} → statement M
     (bottom-up-sub-put-row t)
     (bottom-up-add-put-row t)
     (bottom-up-cast-put-row t)
-    (bottom-up-put-row-requires t)
+    (bottom-up-put-row-requires-2 t)
     (bottom-up-enum-told-7 t)
     (bottom-up-sub-right t)
     (bottom-up-row-at-requires-2 t)
@@ -301,14 +308,13 @@ pub +bottom-up-spec : {M : Type 1} → statement M
     (bottom-up-same-length-8 t)
     (bottom-up-returns-6 t)
     (bottom-up-same-length-9 t)
-    (bottom-up-same-length-10 t)
     (bottom-up-returns-7 t)
+    (bottom-up-same-length-10 t)
     (bottom-up-same-length-11 t)
-    (bottom-up-same-length-12 t)
     (bottom-up-returns-8 t)
+    (bottom-up-same-length-12 t)
     (bottom-up-same-length-13 t)
-    (bottom-up-same-length-14 t)
     (bottom-up-returns-9 t)
+    (bottom-up-same-length-14 t)
     (bottom-up-same-length-15 t)
-    (bottom-up-same-length-16 t)
     (bottom-up-returns-10 t)

@@ -1,14 +1,14 @@
 use mathlib.Core.Path.{_≡_, refl, sym, ap, _∙_}
 use native.Mathlib.Omega.{arith}
-use Prim.Native.Nat.{_+_, _-_, _*_, _/_}
+use Prim.Native.Nat.{_+_, _-_, _*_, _/_, ℕ, _<_}
 use lib.ListN.{length}
-use Rattle.grammar.specs.Tree.{Expr, Un, Opt, Seq, Choice, un, bin, size}
+use Rattle.grammar.specs.Tree.{Expr, Opt, Seq, Choice, un, bin, size}
 use Rattle.grammar.specs.Rows.{Span}
 use Rattle.grammar.specs.Text.{resolve}
-use Rattle.rows.specs.declared.Shape.the-variants.{Lit, Num, One, Two, Skips}
+use Rattle.rows.specs.declared.Shape.the-variants.{One, Two}
 use Rattle.rows.specs.Rows.{At, sizeAt, shapeOf}
 use Rattle.rows.proofs.Laws.{Found, row-found, root, root-there, found-size}
-use Rattle.rows.proofs.Views.{OneView, TwoView, as-one, as-two}
+use Rattle.rows.proofs.Views.{OneView, TwoView, as-one, as-two, left-at}
 use Rattle.writing.specs.Writes.{Fits}
 use Rattle.writing.specs.Keeps.{Kept}
 use Rattle.writing.proofs.Puts.{row-full}
@@ -17,9 +17,8 @@ use Rattle.writing.proofs.Keeps.{kept-done, kept-full, ready-fits}
 use Rattle.factorizer.specs.Cases.{HeadsTold, TailTold}
 use Rattle.factorizer.specs.Factors.{factored}
 use Rattle.factorizer.proofs.Factors.{choice-heads, choice-tail, choice-first, choice-plain}
-use Rattle.factorizer.proofs.Walks.{un-answer, bin-answer, leaf-is, one-is, two-are, other-is, choice-is, choice-view, left-at, told-heads, told-tail, told-first, told-plain, fits-choice, kept-order, un-room, right-fits, both-order, both-room, opt-factored, ready-both, fits-opt, fits-heads}
+use Rattle.factorizer.proofs.Walks.{un-answer, bin-answer, leaf-is, one-is, two-are, other-is, choice-is, choice-view, told-heads, told-tail, told-first, told-plain, fits-choice, kept-order, un-room, right-fits, both-order, both-room, opt-factored, ready-both, fits-opt, fits-heads}
 use borrow.Author.Needs.{needs}
-use Prim.Native.Nat.{ℕ, _<_}
 use borrow.Fn.Kinds.{In}
 use borrow.Fn.PlainCycle.{Measures, is, falls, and}
 use Rattle.factorizer.proofs.at.Reads as at
@@ -214,7 +213,7 @@ at-sub-left : (t : ℕ) → at-lts.Need-sub-left (calls-at t) (at-at t) at.Post
 at-sub-left t c = let v = at-view t (c .before .before .before .before .before) in omega (arith, at-right t c (v .atRight), v .leastLeft, v .most)
 
 at-choice-requires : (t : ℕ) → at-lts.Need-choice-requires (calls-at t) (at-at t) at.Post
-at-choice-requires t c κs = let s = c .before .before .before .before .before .before .before .before .before .before .before .before .before .before .before .before in let v = at-view t (c .before .before .before .before .before .before .before) in let l = left-at v (at-right t (c .before .before) (v .atRight)) in
+at-choice-requires t c κs = let s = c .before .before .before .before .before .before .before .before .before .before .before .before .before .before .before .before in let v = at-view t (c .before .before .before .before .before .before .before) in let l = left-at v _ (at-right t (c .before .before) (v .atRight)) in
     (omega (arith, s .pre .0, root l .rows, root (v .atRight) .rows, root (s .pre .1 .1 .0 .at) .rows, found-size (at-read t (c .before .before .before .before .before .before .before .before)) (s .pre .1 .1 .0 .at), v .rows), (s .pre .1 .0, (record { left = v .left; right = v .right; atLeft = l; atRight = v .atRight; fits = fits-choice (rw (v .is) at (s .pre .1 .1 .0 .fits)) }, s .pre .1 .1 .1)))
 
 at-same-length-3 : (t : ℕ) → at-lts.Need-same-length-3 (calls-at t) (at-at t) at.Post
@@ -226,7 +225,7 @@ at-same-length-4 t c = search needs
 at-returns-4 : (t : ℕ) → at-lts.Need-returns-4 (calls-at t) (at-at t) at.Post
 at-returns-4 t c = let s = c .before .before .before .before .before .before .before .before .before .before .before .before .before .before .before .before .before .before .before .before .before in
     λ r a. let v = choice-view (at-read t (c .before .before .before .before .before .before .before .before .before .before .before .before .before)) a (c .before .before .before .before .before .before .before .before .before .before .before .before .if1 .left) in
-    rw (choice-is (s .args .tight) (s .args .text .now) v (c .before .before .before .before .before .before .before .before .before .before .before .before .if1 .left)) (c .before .before .before .before .choice .ensures (v .left) (v .right) (left-at v (at-right t (c .before .before .before .before .before .before .before) (v .atRight))) (v .atRight))
+    rw (choice-is (s .args .tight) (s .args .text .now) v (c .before .before .before .before .before .before .before .before .before .before .before .before .if1 .left)) (c .before .before .before .before .choice .ensures (v .left) (v .right) (left-at v _ (at-right t (c .before .before .before .before .before .before .before) (v .atRight))) (v .atRight))
 
 both-at-requires : (t : ℕ) → both-lts.Need-at-requires (calls-both t) (both-at t) both.Post
 both-at-requires t c κs = let s = c .before .before .before .before .before .before in let g = s .pre .1 .1 .0 in
@@ -369,7 +368,7 @@ children-sub-left : (t : ℕ) → children-lts.Need-sub-left (calls-children t) 
 children-sub-left t c = let v = two-view t (c .before .before .before .before .before) in omega (arith, right-size t c (v .atRight), v .leastLeft, v .most)
 
 children-both-requires : (t : ℕ) → children-lts.Need-both-requires (calls-children t) (children-at t) children.Post
-children-both-requires t c κs = let s = c .before .before .before .before .before .before .before .before .before .before .before .before .before .before .before .before .before .before in let v = two-view t (c .before .before .before .before .before .before .before) in let l = left-at v (right-size t (c .before .before) (v .atRight)) in
+children-both-requires t c κs = let s = c .before .before .before .before .before .before .before .before .before .before .before .before .before .before .before .before .before .before in let v = two-view t (c .before .before .before .before .before .before .before) in let l = left-at v _ (right-size t (c .before .before) (v .atRight)) in
     (omega (arith, s .pre .0, root l .rows, root (v .atRight) .rows, root (s .pre .1 .1 .0 .at) .rows, found-size (read t (c .before .before .before .before .before .before .before .before .before .before)) (s .pre .1 .1 .0 .at), v .rows), (s .pre .1 .0, (record { left = v .left; right = v .right; atLeft = l; atRight = v .atRight; fits = fits-choice (rw (v .is) at (s .pre .1 .1 .0 .fits)) }, s .pre .1 .1 .1)))
 
 children-same-length-3 : (t : ℕ) → children-lts.Need-same-length-3 (calls-children t) (children-at t) children.Post
@@ -420,7 +419,7 @@ children-same-length-12 t c = search needs
 children-returns-8 : (t : ℕ) → children-lts.Need-returns-8 (calls-children t) (children-at t) children.Post
 children-returns-8 t c = let s = c .before .before .before .before .before .before .before .before .before .before .before .before .before .before .before .before .before .before .before .before .before .before .before in
     λ r a. let v = as-two (read t (c .before .before .before .before .before .before .before .before .before .before .before .before .before .before .before)) a (is-two t (c .before .before .before .before .before .before .before .before .before .before .before .before)) in
-    rw (two-are (s .args .tight) (s .args .text .now) v) (c .before .before .before .before .both .ensures (v .op) (v .left) (v .right) (v .kind) (left-at v (right-size t (c .before .before .before .before .before .before .before) (v .atRight))) (v .atRight))
+    rw (two-are (s .args .tight) (s .args .text .now) v) (c .before .before .before .before .both .ensures (v .op) (v .left) (v .right) (v .kind) (left-at v _ (right-size t (c .before .before .before .before .before .before .before) (v .atRight))) (v .atRight))
 
 choice-case-of-requires : (t : ℕ) → choice-lts.Need-case-of-requires (calls-choice t) (choice-at t) choice.Post
 choice-case-of-requires t c κs = let s = c .before .before .before .before in let g = s .pre .1 .1 .0 in (s .pre .1 .0, (record { tree = g .left; at = g .atLeft }, record { tree = g .right; at = g .atRight }))

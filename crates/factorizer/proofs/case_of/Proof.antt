@@ -1,8 +1,6 @@
-use mathlib.Core.Path.{_≡_, sym, _∙_}
+use mathlib.Core.Path.{sym, _∙_}
 use mathlib.Core.Bool.{false≢true}
 use Rattle.rows.proofs.Cells.{tells-yes, tells-no}
-use Rattle.rows.specs.Rows.{At}
-use Rattle.factorizer.specs.Cases.{SeqAt}
 use Rattle.factorizer.proofs.Splits.{told-split, told-other, stands-in, plain-heads, plain-tail, plain-first, plain-other}
 use borrow.Author.Tests.{not-true, not-false}
 use borrow.Author.Needs.{needs}

@@ -1,22 +1,19 @@
-use Rattle.lister.proofs.Walks.{leaf-list, one-room, list-one, left-at, two-fits, two-pair, list-two}
-use mathlib.Core.Path.{_≡_, refl, sym, _∙_}
+use Rattle.lister.proofs.Walks.{leaf-list, one-room, list-one, two-fits, two-pair, list-two}
+use mathlib.Core.Path.{_≡_, sym, _∙_}
 use native.Mathlib.Omega.{arith}
-use Prim.Native.Nat.{_-_}
-use lib.ListN.{length}
+use Prim.Native.Nat.{_-_, ℕ, _<_}
 use Rattle.grammar.specs.Tree.{Expr, size}
 use Rattle.grammar.specs.Rows.{Span}
 use Rattle.grammar.specs.Text.{resolve}
 use Rattle.grammar.specs.Steps.{list as listed}
-use Rattle.rows.specs.declared.Shape.the-variants.{Lit, Num, One, Two, Skips}
+use Rattle.rows.specs.declared.Shape.the-variants.{One, Two}
 use Rattle.rows.specs.Rows.{At, sizeAt, shapeOf}
 use Rattle.rows.proofs.Laws.{Found, row-found, root, root-there, found-size}
-use Rattle.rows.proofs.Views.{OneView, TwoView, as-one, as-two}
-use Rattle.writing.specs.Writes.{Fits}
+use Rattle.rows.proofs.Views.{OneView, TwoView, as-one, as-two, left-at}
 use Rattle.writing.specs.Keeps.{Kept}
 use Rattle.writing.proofs.Trees.{fits-un, fits-left}
 use Rattle.writing.proofs.Keeps.{kept-done, kept-full, ready-fits}
 use borrow.Author.Needs.{needs}
-use Prim.Native.Nat.{ℕ, _<_}
 use borrow.Fn.Kinds.{In}
 use borrow.Fn.PlainCycle.{Measures, is, falls, and}
 use Rattle.lister.proofs.list.Reads as list
@@ -69,7 +66,7 @@ one-kept : (t : ℕ) (c : list-lts.After-known-told2 (calls-list t) (list-at t) 
 one-kept t c = let v = one-view t (c .before .before .before .before .before .before .before .before .before .before) in let d = c .before .before .before .before .before .before .before .list in kept-done _ _ _ _ _ _ (c .before .q .given .1) (d .ensures (v .child) (v .at))
 
 left-kept : (t : ℕ) (c : list-lts.After-known-told4 (calls-list t) (list-at t) list.Post) → let s = c .before .before .before .before .before .before .before .before .before .before .before .before .before .before .before .before .before .before .before .before .before .before .before .before .before .before in let d = c .before .before .before .before .before .before .before .list2 in Kept (c .before .q2 .given .0 .0) (s .args .p) (listed (resolve (s .args .text .now) (two-view t (c .before .before .before .before .before .before .before .before .before .before .before .before .before .before .before) .left))) (s .args .out .now) (d .last .1 .1 .1 .0) (s .args .lits .now) (d .last .1 .1 .1 .1 .0)
-left-kept t c = let v = two-view t (c .before .before .before .before .before .before .before .before .before .before .before .before .before .before .before) in let d = c .before .before .before .before .before .before .before .list2 in kept-done _ _ _ _ _ _ (c .before .q2 .given .1) (d .ensures (v .left) (left-at v (right-size t (c .before .before .before .before .before .before .before .before .before .before) (v .atRight))))
+left-kept t c = let v = two-view t (c .before .before .before .before .before .before .before .before .before .before .before .before .before .before .before) in let d = c .before .before .before .before .before .before .before .list2 in kept-done _ _ _ _ _ _ (c .before .q2 .given .1) (d .ensures (v .left) (left-at v _ (right-size t (c .before .before .before .before .before .before .before .before .before .before) (v .atRight))))
 
 right-kept : (t : ℕ) (c : list-lts.After-known-told5 (calls-list t) (list-at t) list.Post) → let s = c .before .before .before .before .before .before .before .before .before .before .before .before .before .before .before .before .before .before .before .before .before .before .before .before .before .before .before .before .before .before .before .before .before .before .before .before in let d = c .before .before .before .before .before .before .before .before .before .before .before .before .before .before .before .before .before .list2 in let e = c .before .before .before .before .before .before .before .list3 in Kept (c .before .s .given .0 .0) (c .before .before .before .before .before .before .before .before .before .before .before .q2 .given .0 .0) (listed (resolve (s .args .text .now) (two-view t (c .before .before .before .before .before .before .before .before .before .before .before .before .before .before .before .before .before .before .before .before .before .before .before .before .before) .right))) (d .last .1 .1 .1 .0) (e .last .1 .1 .1 .0) (d .last .1 .1 .1 .1 .0) (e .last .1 .1 .1 .1 .0)
 right-kept t c = let v = two-view t (c .before .before .before .before .before .before .before .before .before .before .before .before .before .before .before .before .before .before .before .before .before .before .before .before .before) in let e = c .before .before .before .before .before .before .before .list3 in kept-done _ _ _ _ _ _ (c .before .s .given .1) (e .ensures (v .right) (v .atRight))
@@ -161,7 +158,7 @@ list-sub-left : (t : ℕ) → list-lts.Need-sub-left (calls-list t) (list-at t) 
 list-sub-left t c = let v = two-view t (c .before .before .before .before .before) in omega (arith, right-size t c (v .atRight), v .leastLeft, v .most)
 
 list-list-requires-2 : (t : ℕ) → list-lts.Need-list-requires-2 (calls-list t) (list-at t) list.Post
-list-list-requires-2 t c κs = let s = c .before .before .before .before .before .before .before .before .before .before .before .before .before .before .before .before .before .before in let v = two-view t (c .before .before .before .before .before .before .before) in let l = left-at v (right-size t (c .before .before) (v .atRight)) in
+list-list-requires-2 t c κs = let s = c .before .before .before .before .before .before .before .before .before .before .before .before .before .before .before .before .before .before in let v = two-view t (c .before .before .before .before .before .before .before) in let l = left-at v _ (right-size t (c .before .before) (v .atRight)) in
     (omega (arith, s .pre .0, root l .rows, root (s .pre .1 .1 .0 .at) .rows, found-size (read t (c .before .before .before .before .before .before .before .before .before .before)) (s .pre .1 .1 .0 .at), v .rows), (s .pre .1 .0, (record { tree = v .left; at = l; fits = fits-left (rw (v .is) at (s .pre .1 .1 .0 .fits)) }, s .pre .1 .1 .1)))
 
 list-enum-known-q-2 : (t : ℕ) → list-lts.Need-enum-known-q-2 (calls-list t) (list-at t) list.Post
@@ -177,7 +174,7 @@ list-same-length-4 : (t : ℕ) → list-lts.Need-same-length-4 (calls-list t) (l
 list-same-length-4 t c = search needs
 
 list-returns-4 : (t : ℕ) → list-lts.Need-returns-4 (calls-list t) (list-at t) list.Post
-list-returns-4 t c = let v = two-view t (c .before .before .before .before .before .before .before .before .before .before .before .before .before .before) in λ r a. kept-full _ _ _ _ _ _ (c .enum-told9 .given .1) (c .before .before .before .before .before .before .list2 .ensures (v .left) (left-at v (right-size t (c .before .before .before .before .before .before .before .before .before) (v .atRight))))
+list-returns-4 t c = let v = two-view t (c .before .before .before .before .before .before .before .before .before .before .before .before .before .before) in λ r a. kept-full _ _ _ _ _ _ (c .enum-told9 .given .1) (c .before .before .before .before .before .before .list2 .ensures (v .left) (left-at v _ (right-size t (c .before .before .before .before .before .before .before .before .before) (v .atRight))))
 
 list-list-requires-3 : (t : ℕ) → list-lts.Need-list-requires-3 (calls-list t) (list-at t) list.Post
 list-list-requires-3 t c κs = let s = c .before .before .before .before .before .before .before .before .before .before .before .before .before .before .before .before .before .before .before .before .before .before .before .before .before .before .before .before in let v = two-view t (c .before .before .before .before .before .before .before .before .before .before .before .before .before .before .before .before .before) in let d = c .before .before .before .before .before .before .before .before .before .list2 in
@@ -250,7 +247,7 @@ list-same-length-16 t c = search needs
 list-returns-10 : (t : ℕ) → list-lts.Need-returns-10 (calls-list t) (list-at t) list.Post
 list-returns-10 t c = let s = c .before .before .before .before .before .before .before .before .before .before .before .before .before .before .before .before .before .before .before .before .before .before .before .before .before .before .before .before .before .before .before .before .before .before .before .before .before .before .before .before .before in let d = c .before .before .before .before .before .before .before .before .before .before .before .before .before .before .before .before .before .before .before .before .before .before .list2 in let e = c .before .before .before .before .before .before .before .before .before .before .before .before .list3 in
     λ r a. let v = as-two (read t (c .before .before .before .before .before .before .before .before .before .before .before .before .before .before .before .before .before .before .before .before .before .before .before .before .before .before .before .before .before .before .before .before .before)) a (is-two t (c .before .before .before .before .before .before .before .before .before .before .before .before .before .before .before .before .before .before .before .before .before .before .before .before .before .before .before .before .before .before)) in
-    let w = kept-done _ _ _ _ _ _ (c .before .before .before .before .before .before .before .before .before .before .before .before .before .before .before .before .q2 .given .1) (d .ensures (v .left) (left-at v (right-size t (c .before .before .before .before .before .before .before .before .before .before .before .before .before .before .before .before .before .before .before .before .before .before .before .before .before) (v .atRight)))) in
+    let w = kept-done _ _ _ _ _ _ (c .before .before .before .before .before .before .before .before .before .before .before .before .before .before .before .before .q2 .given .1) (d .ensures (v .left) (left-at v _ (right-size t (c .before .before .before .before .before .before .before .before .before .before .before .before .before .before .before .before .before .before .before .before .before .before .before .before .before) (v .atRight)))) in
     let u = kept-done _ _ _ _ _ _ (c .before .before .before .before .before .before .s .given .1) (e .ensures (v .right) (v .atRight)) in
     list-two _ v w (d .kept .1 .1 .1 .0) (d .kept .1 .1 .1 .1 .0) (ready-fits (s .pre .1 .1 .0) r a) u (e .kept .1 .1 .1 .0) (e .kept .1 .1 .1 .1 .0) (c .before .before .finish .result) (c .before .before .finish .last .0) (c .before .before .finish .ensures)
 

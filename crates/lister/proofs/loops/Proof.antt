@@ -1,6 +1,6 @@
 use Rattle.rows.specs.Rows.{At, Within}
 use lib.ListN.{length}
-use mathlib.Core.Path.{_≡_, sym, _∙_}
+use mathlib.Core.Path.{sym, _∙_}
 use Prim.Native.Nat.{_-_}
 use native.Mathlib.Omega.{arith}
 use Rattle.rows.proofs.Laws.{Found, row-found, root-there, found-size, size-pos}

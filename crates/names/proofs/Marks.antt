@@ -1,0 +1,138 @@
+-- The hash of a part of a text byte by byte, marks after they are written, and a bool that tells whether names are the same. Assumes nothing.
+use mathlib.Core.Path.{_≡_, refl, sym, ap, _∙_}
+use mathlib.Core.Bool.{Bool, true, false, _||_}
+use mathlib.Core.List.{List, _∷_}
+use Prim.Native.Nat.{ℕ, zero, suc, _+_, _-_, _*_, _/_, _%_, _^_, _≤_, _<_}
+use native.Mathlib.Nat.{add-zero}
+use native.Mathlib.Numerals.{add-one}
+use native.Mathlib.Decide.{ℕ-discrete}
+use native.Mathlib.Omega.{arith}
+use lib.ListN.{length, getD, set, length-set}
+use lib.Seq.{drop-cons, take-all, getD-set-same, getD-set-other}
+use Rattle.grammar.specs.Basic.{Bytes, sameBytes}
+use Rattle.grammar.specs.Text.{bytesAt}
+use Rattle.grammar.proofs.Logic.{or-left, eq-sameBytes, sameBytes-eq}
+use Rattle.rows.specs.Rows.{Tells}
+use Rattle.rows.proofs.Laws.{length-part}
+use Rattle.names.specs.Names.{nameOf, rowsBefore, hashFrom, hashOf, marked, withHashes, withEnds, NamesInside, Hashed, Ended}
+
+-- ---- the hash
+
+-- the first byte of a part, and the rest
+pub part-cons : (t : Bytes) (x n : ℕ) → x + suc n ≤ length t → bytesAt t (x, suc n) ≡ getD t x 0 ∷ bytesAt t (x + 1, n)
+part-cons t x n h = rw (drop-cons t x 0 (omega arith), add-one)
+
+pub hash-start : (t : Bytes) (x n : ℕ) → x + n ≤ length t → hashFrom (n % 2 ^ 32) (bytesAt t (x + 0, n - 0)) ≡ hashOf (bytesAt t (x, n))
+unfolding hashOf
+hash-start t x n h =
+    let e : n - 0 ≡ n = omega arith in
+    rw (add-zero, e) (ap (λ (m : ℕ). hashFrom (m % 2 ^ 32) (bytesAt t (x, n))) (sym (length-part t x n h)))
+
+pub hash-step : (t : Bytes) (x n i h : ℕ) → i < n → x + n ≤ length t → hashFrom h (bytesAt t (x + i, n - i)) ≡ hashFrom ((h * 16777619 + getD t (x + i) 0) % 2 ^ 32) (bytesAt t (x + (i + 1), n - (i + 1)))
+hash-step t x n i h l f =
+    let e : n - i ≡ suc (n - (i + 1)) = omega arith in
+    let a : x + i + 1 ≡ x + (i + 1) = omega arith in
+    rw e (ap (hashFrom h) (part-cons t (x + i) (n - (i + 1)) (omega arith)) ∙ ap (λ (m : ℕ). hashFrom ((h * 16777619 + getD t (x + i) 0) % 2 ^ 32) (bytesAt t (m, n - (i + 1)))) a)
+
+pub hash-end : (t : Bytes) (x n i h : ℕ) → n ≤ i → hashFrom h (bytesAt t (x + i, n - i)) ≡ h
+hash-end t x n i h l = let e : n - i ≡ 0 = omega arith in rw e
+
+-- ---- marks after they are written
+
+module _ (f : ℕ → ℕ) (j : ℕ) where
+  pub length-marked : (n : ℕ) (m : List ℕ) → length (marked f j n m) ≡ length m
+  length-marked zero m = refl
+  length-marked (suc n) m = length-set (marked f j n m) (n * 4 + j) (f n) ∙ length-marked n m
+
+  -- a word of the marks that is none of those written
+  pub marked-other : (n : ℕ) (m : List ℕ) (k : ℕ) → ((i : ℕ) → i < n → k ≡ i * 4 + j → ⊥) → getD (marked f j n m) k 0 ≡ getD m k 0
+  marked-other zero m k h = refl
+  marked-other (suc n) m k h =
+      getD-set-other (marked f j n m) (n * 4 + j) k (f n) 0 (h n (omega arith)) ∙ marked-other n m k (λ i l. h i (omega arith))
+
+  -- a word that was written
+  pub marked-at : (n : ℕ) (m : List ℕ) (i : ℕ) → j < 4 → n * 4 ≤ length m → i < n → getD (marked f j n m) (i * 4 + j) 0 ≡ f i
+  marked-at zero m i s l h = absurd (omega arith)
+  marked-at (suc n) m i s l h = go (ℕ-discrete i n) (λ b. marked-at n m i s (omega arith) b)
+    where
+      go : Dec (i ≡ n) → (i < n → getD (marked f j n m) (i * 4 + j) 0 ≡ f i) → getD (set (marked f j n m) (n * 4 + j) (f n)) (i * 4 + j) 0 ≡ f i
+      go (yes e) ih = rw e (getD-set-same (marked f j n m) (n * 4 + j) (f n) 0 (omega (arith, length-marked n m)))
+      go (no e) ih = getD-set-other (marked f j n m) (n * 4 + j) (i * 4 + j) (f n) 0 (λ q. e (omega arith)) ∙ ih (omega arith)
+
+pub hashed : (rules : List ℕ) (text : Bytes) (m : List ℕ) → NamesInside rules (length text) → length rules / 4 * 4 ≤ length m → Hashed rules text (withHashes rules text m)
+hashed rules text m h l =
+    let f : ℕ → ℕ = λ i. hashOf (nameOf rules text i) in
+    let n : ℕ = length rules / 4 in
+    record {
+      inside = h;
+      long = rw (length-marked f 0 n m) l;
+      hash = λ i b. subst-zero (withHashes rules text m) i (f i) (marked-at f 0 n m i (omega arith) l b);
+    }
+  where
+    subst-zero : (w : List ℕ) (i v : ℕ) → getD w (i * 4 + 0) 0 ≡ v → getD w (i * 4) 0 ≡ v
+    subst-zero w i v e = rw add-zero at e
+
+pub hashed-ends : (rules : List ℕ) (text : Bytes) (m : List ℕ) → Hashed rules text m → Hashed rules text (withEnds rules m)
+hashed-ends rules text m h =
+    let f : ℕ → ℕ = λ i. rowsBefore rules (suc i) in
+    let n : ℕ = length rules / 4 in
+    record {
+      inside = h .inside;
+      long = rw (length-marked f 3 n m) (h .long);
+      hash = λ i b. marked-other f 3 n m (i * 4) (λ k l e. omega arith) ∙ h .hash i b;
+    }
+
+pub ended : (rules m : List ℕ) → length rules / 4 * 4 ≤ length m → Ended rules (withEnds rules m)
+ended rules m l = record { end = λ i b. marked-at (λ k. rowsBefore rules (suc k)) 3 (length rules / 4) m i (omega arith) l b }
+
+-- the rows before a rule grow
+pub before-grows : (rules : List ℕ) (i n : ℕ) → i ≤ n → rowsBefore rules i ≤ rowsBefore rules n
+before-grows rules i zero h = let e : i ≡ 0 = omega arith in rw e (omega arith)
+before-grows rules i (suc n) h = go (ℕ-discrete i (suc n)) (λ b. before-grows rules i n b)
+  where
+    go : Dec (i ≡ suc n) → (i ≤ n → rowsBefore rules i ≤ rowsBefore rules n) → rowsBefore rules i ≤ rowsBefore rules n + getD rules (n * 4 + 3) 0
+    go (yes e) ih = rw e (omega arith)
+    go (no e) ih = let l : rowsBefore rules i ≤ rowsBefore rules n = ih (omega arith) in omega arith
+
+-- ---- names that are the same
+
+pub tells-same : (b : Bool) (p q : Bytes) → Tells b (p ≡ q) → b ≡ sameBytes p q
+tells-same true p q h = sym (eq-sameBytes p q h)
+tells-same false p q h = go (sameBytes p q) refl
+  where
+    go : (t : Bool) → sameBytes p q ≡ t → false ≡ t
+    go true e = absurd (h (sameBytes-eq p q e))
+    go false e = refl
+
+-- a whole text as a part of it
+pub part-whole : (s : Bytes) (n : ℕ) → n ≡ length s → bytesAt s (0, n) ≡ s
+part-whole s n e = take-all n s (omega arith)
+
+-- parts of different lengths are different
+pub part-differ : (t : Bytes) (x n : ℕ) (s : Bytes) → x + n ≤ length t → (n ≡ length s → ⊥) → bytesAt t (x, n) ≡ s → ⊥
+part-differ t x n s h d e = d (sym (length-part t x n h) ∙ ap length e)
+
+pub parts-differ : (t : Bytes) (x l : ℕ) (u : Bytes) (y n : ℕ) → x + l ≤ length t → y + n ≤ length u → (l ≡ n → ⊥) → bytesAt t (x, l) ≡ bytesAt u (y, n) → ⊥
+parts-differ t x l u y n h k d = part-differ t x l (bytesAt u (y, n)) h (λ e. d (e ∙ length-part u y n k))
+
+-- unequal hashes mean unequal names
+pub hashes-differ : (p q : Bytes) (a b : ℕ) → a ≡ hashOf p → b ≡ hashOf q → (a ≡ b → ⊥) → p ≡ q → ⊥
+hashes-differ p q a b ha hb d e = d (ha ∙ ap hashOf e ∙ sym hb)
+
+-- one mark more
+pub marked-step : (f : ℕ → ℕ) (j i : ℕ) (m w : List ℕ) (k v : ℕ) → w ≡ marked f j i m → k ≡ i * 4 + j → v ≡ f i → set w k v ≡ marked f j (i + 1) m
+marked-step f j i m w k v hw hk hv = rw (add-one, hw, hk, hv)
+
+pub before-step : (rules : List ℕ) (i n : ℕ) → n ≡ rowsBefore rules i → n + getD rules (i * 4 + 3) 0 ≡ rowsBefore rules (i + 1)
+before-step rules i n h = rw (add-one, h)
+
+-- a search in a list of names: found at the first, or further on
+pub or-yes : (a b r : Bool) → r ≡ true → r ≡ a → true ≡ (a || b)
+or-yes a b r h e = sym (or-left a b (sym e ∙ h))
+
+pub or-no : (a b r s : Bool) → r ≡ false → r ≡ a → s ≡ b → s ≡ (a || b)
+or-no a b r s h e k = let q : a ≡ false = sym e ∙ h in rw q k
+
+pub or-last : (b s : Bool) → s ≡ b → s ≡ (b || false)
+or-last true s e = e
+or-last false s e = e

@@ -1,0 +1,476 @@
+// Refusals 2 to 6 of a lent table: the lowest that holds, for any words and any text.
+ghost use mathlib.Core.Path.{_≡_};
+ghost use mathlib.Core.Bool.{_||_};
+ghost use Prim.Native.Nat.{ℕ, _+_, _-_, _*_, _/_, _%_, _^_, _≤_, _<_};
+ghost use lib.ListN.{length, take, drop};
+ghost use lib.Dec.{eqb};
+ghost use Rattle.grammar.specs.Refusals.{badCounts, badSpan};
+ghost use Rattle.rows.specs.Rows.{Tells, kindAt};
+ghost use Rattle.names.specs.Names.{rowsBefore, NamesInside, Hashed};
+ghost use Rattle.refusals.specs.Local.{upTo, usesX, usesY, unusedZero, OneFits, TwoFits, SkipFits, RowFits, IsTree, IsTable};
+ghost use Rattle.refusals.specs.Bytes.{anyFour, badName, badRow, zeroRow, High, Indexed, NameFree, NamesFine};
+ghost use Rattle.refusals.specs.Check.{lent, NamesChecked, Checked};
+use names::Found;
+use rows::Lookup;
+use rows::Shape;
+use rows::wide;
+
+// What a check finds: nothing to refuse, or a refusal's number.
+pub enum Verdict {
+    Fine,
+    Refused(u32),
+}
+
+// ---- refusal 2
+
+// Refusal 2: a word count that is no multiple of four, or an input above full size.
+pub fn bad_counts(rules: &[u32], rows: &[u32], text: &[u8]) -> bool
+    ensures { λ r. ⌜ r ≡ badCounts (lent (now (rules .entry)) (now (rows .entry)) (now (text .entry))) ⌝ }
+{
+    if rules.len() % 4 != 0 {
+        return true;
+    }
+    if rows.len() % 4 != 0 {
+        return true;
+    }
+    if 1024 < rules.len() {
+        return true;
+    }
+    if 16384 < rows.len() {
+        return true;
+    }
+    65536 < text.len()
+}
+
+// ---- refusal 3
+
+// Whether a kind's x means something.
+fn uses_x(kind: u32) -> bool
+    ensures { λ r. ⌜ r ≡ usesX kind ⌝ }
+{
+    if kind < 6 {
+        return true;
+    }
+    if kind < 13 {
+        return false;
+    }
+    kind < 18
+}
+
+// Whether a kind's y means something.
+fn uses_y(kind: u32) -> bool
+    ensures { λ r. ⌜ r ≡ usesY kind ⌝ }
+{
+    if kind < 4 {
+        return true;
+    }
+    if kind == 5 {
+        return true;
+    }
+    kind == 16
+}
+
+// Whether x is 0 where its kind does not use it.
+fn x_fits(kind: u32, x: u32) -> bool
+    ensures { λ r. ⌜ r ≡ (eqb x 0 || usesX kind) ⌝ }
+{
+    if x == 0 {
+        return true;
+    }
+    uses_x(kind)
+}
+
+// Whether the words that a kind does not use are 0.
+fn unused_zero(kind: u32, x: u32, y: u32) -> bool
+    ensures { λ r. ⌜ r ≡ unusedZero kind x y ⌝ }
+{
+    if y == 0 {
+        return x_fits(kind, x);
+    }
+    if !uses_y(kind) {
+        return false;
+    }
+    x_fits(kind, x)
+}
+
+// Whether a row of size n at i has one child before it.
+fn one_fits(rows: &[u32], i: usize, n: usize) -> bool
+    requires { ⌜ i < length (now rows) / 4 ⌝ }
+    ensures { λ r. ⌜ Tells r (OneFits (now (rows .entry)) i n) ⌝ }
+{
+    if i == 0 {
+        return false;
+    }
+    let child = wide(rows[(i - 1) * 4 + 3]);
+    n == child + 1
+}
+
+// Whether a row of size n at i has two children before it.
+fn two_fits(rows: &[u32], i: usize, n: usize) -> bool
+    requires { ⌜ i < length (now rows) / 4 ⌝ }
+    ensures { λ r. ⌜ Tells r (TwoFits (now (rows .entry)) i n) ⌝ }
+{
+    if i == 0 {
+        return false;
+    }
+    let right = wide(rows[(i - 1) * 4 + 3]);
+    if i <= right {
+        return false;
+    }
+    let left = wide(rows[(i - 1 - right) * 4 + 3]);
+    n == left + right + 1
+}
+
+// Whether rows from..to are Str rows.
+fn strs(rows: &[u32], from: usize, to: usize) -> bool
+    requires { ⌜ (from ≤ to) × (to ≤ length (now rows) / 4) ⌝ }
+    ensures { λ r. ⌜ Tells r ((j : ℕ) → from ≤ j → j < to → kindAt (now (rows .entry)) j ≡ 0) ⌝ }
+{
+    let mut j = from;
+    while j < to {
+        if rows[j * 4] != 0 {
+            return false;
+        }
+        j += 1;
+    }
+    true
+}
+
+// Whether a row of size n at i has k strings before it.
+fn skip_fits(rows: &[u32], i: usize, k: usize, n: usize) -> bool
+    requires { ⌜ i < length (now rows) / 4 ⌝ }
+    ensures { λ r. ⌜ Tells r (SkipFits (now (rows .entry)) i k n) ⌝ }
+{
+    if i < k {
+        return false;
+    }
+    if n != k + 1 {
+        return false;
+    }
+    strs(rows, i - k, i)
+}
+
+// Whether row i is right, with kinds up to `most`.
+fn row_fits(rows: &[u32], i: usize, most: u32) -> bool
+    requires { ⌜ i < length (now rows) / 4 ⌝ }
+    ensures { λ r. ⌜ Tells r (RowFits most (now (rows .entry)) i) ⌝ }
+{
+    let Lookup::Row {
+        kind: k,
+        x: x,
+        y: y,
+        size: n,
+    } = rows::row_at(rows, i)
+    else {
+        return false;
+    };
+    if most < k {
+        return false;
+    }
+    if !unused_zero(k, x, y) {
+        return false;
+    }
+    match rows::shape_of(k) {
+        Shape::Lit => n == 1,
+        Shape::Num => n == 1,
+        Shape::One => one_fits(rows, i, wide(n)),
+        Shape::Two => two_fits(rows, i, wide(n)),
+        Shape::Skips => skip_fits(rows, i, wide(x), wide(n)),
+    }
+}
+
+// Whether these rows are one tree's.
+fn one_tree(rows: &[u32], most: u32) -> bool
+    requires { ⌜ (length (now rows) % 4 ≡ 0) × (most ≤ 19) ⌝ }
+    ensures { λ r. ⌜ Tells r (IsTree (upTo most) (now (rows .entry))) ⌝ }
+{
+    let count = rows.len() / 4;
+    if count == 0 {
+        return false;
+    }
+    let mut i = 0;
+    while i < count {
+        if !row_fits(rows, i, most) {
+            return false;
+        }
+        i += 1;
+    }
+    wide(rows[(count - 1) * 4 + 3]) == count
+}
+
+// Whether rows from..to are one tree's.
+fn rule_tree(rows: &[u32], from: usize, to: usize, most: u32) -> bool
+    requires { ⌜ (from ≤ to) × (to ≤ length (now rows) / 4) × (most ≤ 19) ⌝ }
+    ensures { λ r. ⌜ Tells r (IsTree (upTo most) (take (4 * (to - from)) (drop (from * 4) (now (rows .entry))))) ⌝ }
+{
+    let a = from * 4;
+    let e = to * 4;
+    one_tree(&rows[a..e], most)
+}
+
+// Refusal 3: whether the words are a table's, with kinds up to `most`.
+pub fn trees(rules: &[u32], rows: &[u32], most: u32) -> bool
+    requires { ⌜ (length (now rules) % 4 ≡ 0) × (length (now rows) % 4 ≡ 0) × (most ≤ 19) ⌝ }
+    ensures { λ r. ⌜ Tells r (IsTable (upTo most) (now (rules .entry)) (now (rows .entry))) ⌝ }
+{
+    let count = rules.len() / 4;
+    let total = rows.len() / 4;
+    let mut i = 0;
+    let mut from = 0;
+    while i < count {
+        let at = i * 4;
+        if rules[at + 2] > 4 {
+            return false;
+        }
+        let n = wide(rules[at + 3]);
+        if total - from < n {
+            return false;
+        }
+        if !rule_tree(rows, from, from + n, most) {
+            return false;
+        }
+        from += n;
+        i += 1;
+    }
+    from == total
+}
+
+// ---- refusal 4
+
+// Where the first byte above 127 from p on is, when from stop on it is at `other`.
+fn next_high(text: &[u8], p: usize, stop: usize, other: usize) -> usize
+    requires { ⌜ (p ≤ stop) × (stop ≤ length (now text)) ⌝ }
+    requires { ⌜ High (now text) stop other ⌝ }
+    ensures { λ r. ⌜ High (now (text .entry)) p r ⌝ }
+{
+    let mut i = p;
+    while i < stop {
+        if text[i] > 127 {
+            return i;
+        }
+        i += 1;
+    }
+    other
+}
+
+// Writes for each 64 bytes of the text where the first byte above 127 from there on is; the first of all comes back.
+fn index_high(text: &[u8], marks: &mut [u32]) -> usize
+    requires { ⌜ (length (now text) ≤ 65536) × (1024 ≤ length (now marks)) ⌝ }
+    ensures { λ r. ⌜ High (now (text .entry)) 0 r × Indexed (now (text .entry)) (now (marks .exit)) ⌝ }
+{
+    let mut stop = text.len();
+    let mut next = stop;
+    let mut b = (stop + 63) / 64;
+    while 0 < b {
+        b -= 1;
+        next = next_high(text, b * 64, stop, next);
+        marks[b] = next as u32;
+        stop = b * 64;
+    }
+    next
+}
+
+// Where the first byte above 127 from x on is: at most 64 bytes are looked at.
+fn high_from(text: &[u8], marks: &[u32], x: usize) -> usize
+    requires { ⌜ x ≤ length (now text) ⌝ }
+    requires { ⌜ Indexed (now text) (now marks) ⌝ }
+    ensures { λ r. ⌜ High (now (text .entry)) x r ⌝ }
+{
+    let b = x / 64 + 1;
+    let at = b * 64;
+    if at < text.len() {
+        return next_high(text, x, at, wide(marks[b]));
+    }
+    next_high(text, x, text.len(), text.len())
+}
+
+// Whether a name or literal is refused: it ends past the text, or has a byte above 127. `first` is where the first such byte of all is.
+fn bad_span(text: &[u8], marks: &[u32], first: usize, x: u32, n: u32) -> bool
+    requires { ⌜ High (now text) 0 first ⌝ }
+    requires { ⌜ Indexed (now text) (now marks) ⌝ }
+    ensures { λ r. ⌜ r ≡ badSpan (now (text .entry)) (x, n) ⌝ }
+{
+    let end = wide(x) + wide(n);
+    if text.len() < end {
+        return true;
+    }
+    if end <= first {
+        return false;
+    }
+    high_from(text, marks, wide(x)) < end
+}
+
+// Whether some name is refused.
+fn bad_rules(rules: &[u32], text: &[u8], marks: &[u32], first: usize) -> bool
+    requires { ⌜ High (now text) 0 first ⌝ }
+    requires { ⌜ Indexed (now text) (now marks) ⌝ }
+    ensures { λ r. ⌜ r ≡ anyFour (badName (now (text .entry))) (now (rules .entry)) ⌝ }
+{
+    let count = rules.len() / 4;
+    let mut i = 0;
+    while i < count {
+        let at = i * 4;
+        if bad_span(text, marks, first, rules[at], rules[at + 1]) {
+            return true;
+        }
+        i += 1;
+    }
+    false
+}
+
+// Whether a row's literal or Range is refused.
+fn bad_row(text: &[u8], marks: &[u32], first: usize, kind: u32, x: u32, y: u32) -> bool
+    requires { ⌜ High (now text) 0 first ⌝ }
+    requires { ⌜ Indexed (now text) (now marks) ⌝ }
+    ensures { λ r. ⌜ r ≡ badRow (now (text .entry)) kind x y ⌝ }
+{
+    if 3 < kind {
+        return false;
+    }
+    if kind == 2 {
+        if 127 < x {
+            return true;
+        }
+        return 127 < y;
+    }
+    bad_span(text, marks, first, x, y)
+}
+
+// Whether some row's literal or Range is refused.
+fn bad_rows(rows: &[u32], text: &[u8], marks: &[u32], first: usize) -> bool
+    requires { ⌜ High (now text) 0 first ⌝ }
+    requires { ⌜ Indexed (now text) (now marks) ⌝ }
+    ensures { λ r. ⌜ r ≡ anyFour (badRow (now (text .entry))) (now (rows .entry)) ⌝ }
+{
+    let count = rows.len() / 4;
+    let mut i = 0;
+    while i < count {
+        let at = i * 4;
+        if bad_row(text, marks, first, rows[at], rows[at + 1], rows[at + 2]) {
+            return true;
+        }
+        i += 1;
+    }
+    false
+}
+
+// Refusal 4: some name or literal is not in the text or not ASCII, or some Range is not.
+pub fn bad_text(rules: &[u32], rows: &[u32], text: &[u8], marks: &mut [u32]) -> bool
+    requires { ⌜ (length (now text) ≤ 65536) × (1024 ≤ length (now marks)) ⌝ }
+    ensures { λ r. ⌜ r ≡ (anyFour (badName (now (text .entry))) (now (rules .entry)) || anyFour (badRow (now (text .entry))) (now (rows .entry))) ⌝ }
+{
+    let first = index_high(text, marks);
+    if bad_rules(rules, text, marks, first) {
+        return true;
+    }
+    bad_rows(rows, text, marks, first)
+}
+
+// ---- refusal 5
+
+// Whether rule i's name is free: not reserved, and no earlier rule's.
+fn name_free(rules: &[u32], text: &[u8], marks: &[u32], i: usize) -> bool
+    requires { ⌜ Hashed (now rules) (now text) (now marks) ⌝ }
+    requires { ⌜ i < length (now rules) / 4 ⌝ }
+    ensures { λ r. ⌜ Tells r (NameFree (now (rules .entry)) (now (text .entry)) i) ⌝ }
+{
+    let at = i * 4;
+    let x = wide(rules[at]);
+    let n = wide(rules[at + 1]);
+    if names::reserved(text, x, n) {
+        return false;
+    }
+    match names::find_below(rules, text, marks, i, marks[at], text, x, n) {
+        Found::At(_) => false,
+        Found::Nothing => true,
+    }
+}
+
+// Refusal 5 does not hold: no name is reserved, and no two are equal.
+pub fn names_fine(rules: &[u32], text: &[u8], marks: &[u32]) -> bool
+    requires { ⌜ Hashed (now rules) (now text) (now marks) ⌝ }
+    ensures { λ r. ⌜ Tells r (NamesFine (now (rules .entry)) (now (text .entry))) ⌝ }
+{
+    let count = rules.len() / 4;
+    let mut i = 0;
+    while i < count {
+        if !name_free(rules, text, marks, i) {
+            return false;
+        }
+        i += 1;
+    }
+    true
+}
+
+// ---- refusal 6
+
+// Whether a row is a repeat of at most 0 times.
+fn zero_row(kind: u32, x: u32, y: u32) -> bool
+    ensures { λ r. ⌜ r ≡ zeroRow kind x y ⌝ }
+{
+    if kind == 13 {
+        return x == 0;
+    }
+    if kind == 15 {
+        return x == 0;
+    }
+    if kind == 16 {
+        return y == 0;
+    }
+    false
+}
+
+// Refusal 6: some row is a repeat of at most 0 times.
+pub fn zero_counts(rows: &[u32]) -> bool
+    ensures { λ r. ⌜ r ≡ anyFour zeroRow (now (rows .entry)) ⌝ }
+{
+    let count = rows.len() / 4;
+    let mut i = 0;
+    while i < count {
+        let at = i * 4;
+        if zero_row(rows[at], rows[at + 1], rows[at + 2]) {
+            return true;
+        }
+        i += 1;
+    }
+    false
+}
+
+// ---- the check
+
+// Refusals 5 and 6 of a table that can be read and whose names and literals are right. The marks then hold the names' hashes and the rules' ends.
+fn check_names(rules: &[u32], rows: &[u32], text: &[u8], marks: &mut [u32]) -> Verdict
+    requires { ⌜ NamesInside (now rules) (length (now text)) ⌝ }
+    requires { ⌜ (length (now rules) / 4 * 4 ≤ length (now marks)) × (rowsBefore (now rules) (length (now rules) / 4) < 2 ^ 32) ⌝ }
+    ensures { λ v. ⌜ NamesChecked v (now (rules .entry)) (now (rows .entry)) (now (text .entry)) (now (marks .exit)) ⌝ }
+{
+    names::hash_names(rules, text, marks);
+    if !names_fine(rules, text, marks) {
+        return Verdict::Refused(5);
+    }
+    if zero_counts(rows) {
+        return Verdict::Refused(6);
+    }
+    names::mark_ends(rules, marks);
+    Verdict::Fine
+}
+
+// Refusals 2 to 6: the lowest that holds. Where none does, a table stands there, and the marks hold its names' hashes and its rules' ends.
+// Full size takes about 830,000 instructions: each row is read three times, each byte once, each pair of hashes is compared, and a literal
+// past a byte above 127 costs at most 64 bytes more. The worst input has 256 names of 65,000 bytes that share their text, each hashed
+// once: 64 million instructions.
+pub fn check(rules: &[u32], rows: &[u32], text: &[u8], marks: &mut [u32]) -> Verdict
+    requires { ⌜ 1024 ≤ length (now marks) ⌝ }
+    ensures { λ v. ⌜ Checked v (lent (now (rules .entry)) (now (rows .entry)) (now (text .entry))) (now (marks .exit)) ⌝ }
+{
+    if bad_counts(rules, rows, text) {
+        return Verdict::Refused(2);
+    }
+    if !trees(rules, rows, 18) {
+        return Verdict::Refused(3);
+    }
+    if bad_text(rules, rows, text, marks) {
+        return Verdict::Refused(4);
+    }
+    check_names(rules, rows, text, marks)
+}
