@@ -24,9 +24,9 @@ use Rattle.passes.proofs.Tables.{count-append, text-append, resolve-app
 use Rattle.passes.proofs.Progress.{Progress}
 
 -- concatenate leaves rules of other types alone
-type-case : {P : E → Type 0} (y : ℕ) (e : E) → P (concatenate Atomic e) → P e → P (concatenate y e)
+type-case : (P : E → Type 0) (y : ℕ) (e : E) → P (concatenate Atomic e) → P e → P (concatenate y e)
 unfolding concatenate
-type-case {P} y e a b = go (eqb y Atomic) refl
+type-case P y e a b = go (eqb y Atomic) refl
   where
     go : (v : Bool) → eqb y Atomic ≡ v → P (cond v (bottomUp (orSame concat?) e) e)
     go true h = a
@@ -54,8 +54,8 @@ unfolding stepOf
 step-six look y e = refl
 
 -- a step that cannot grow
-by-number : {P : E → Type 0} (n : ℕ) → grows n ≡ false → (look : Table Bytes) (y : ℕ) (e : E) → P (rotate e) → P (concatenate y e) → P (factor y e) → P (list e) → P (stepOf n look y e)
-by-number {P} n k look y e a b c d = go (eqb n 1) (eqb n 4) (eqb n 5) (eqb n 6) refl refl refl refl k
+by-number : (P : E → Type 0) (n : ℕ) → grows n ≡ false → (look : Table Bytes) (y : ℕ) (e : E) → P (rotate e) → P (concatenate y e) → P (factor y e) → P (list e) → P (stepOf n look y e)
+by-number P n k look y e a b c d = go (eqb n 1) (eqb n 4) (eqb n 5) (eqb n 6) refl refl refl refl k
   where
     is : (m : ℕ) → eqb n m ≡ true → (x : E) → stepOf m look y e ≡ x → P x → P (stepOf n look y e)
     is m h x q p = subst P (sym (ap (λ (i : ℕ). stepOf i look y e) (eqb-eq n m h) ∙ q)) p
@@ -68,10 +68,10 @@ by-number {P} n k look y e a b c d = go (eqb n 1) (eqb n 4) (eqb n 5) (eqb n 6) 
     go false false false false p q r s h = absurd (false≢true (sym h))
 
 pub stepOf-less : (n : ℕ) → grows n ≡ false → (look : Table Bytes) (y : ℕ) (e : E) → size (stepOf n look y e) ≤ size e
-stepOf-less n k look y e = by-number {P = λ x. size x ≤ size e} n k look y e (omega (arith, rotate-size e)) (type-case {P = λ x. size x ≤ size e} y e (concat-size e) (omega arith)) (factor-size y e) (omega (arith, list-size e))
+stepOf-less n k look y e = by-number (λ x. size x ≤ size e) n k look y e (omega (arith, rotate-size e)) (type-case (λ x. size x ≤ size e) y e (concat-size e) (omega arith)) (factor-size y e) (omega (arith, list-size e))
 
 pub stepOf-text : (n : ℕ) → grows n ≡ false → (look : Table Bytes) (y : ℕ) (e : E) → length (textOf (stepOf n look y e)) ≤ length (textOf e)
-stepOf-text n k look y e = by-number {P = λ x. length (textOf x) ≤ length (textOf e)} n k look y e (omega (arith, ap length (rotate-text e))) (type-case {P = λ x. length (textOf x) ≤ length (textOf e)} y e (omega (arith, ap length (concat-text e))) (omega arith)) (factor-text y e) (omega (arith, ap length (list-text e)))
+stepOf-text n k look y e = by-number (λ x. length (textOf x) ≤ length (textOf e)) n k look y e (omega (arith, ap length (rotate-text e))) (type-case (λ x. length (textOf x) ≤ length (textOf e)) y e (omega (arith, ap length (concat-text e))) (omega arith)) (factor-text y e) (omega (arith, ap length (list-text e)))
 
 module _ (F : ℕ → E → E) (less : (y : ℕ) (e : E) → size (F y e) ≤ size e) (text-less : (y : ℕ) (e : E) → length (textOf (F y e)) ≤ length (textOf e)) where
   pub each-rows : (t : Table Bytes) → rowCount (each F t) ≤ rowCount t

@@ -3,3 +3,4 @@ pub mod Answers
 pub mod Progress
 pub mod Growth
 pub mod Loops
+pub mod Walks

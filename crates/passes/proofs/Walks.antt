@@ -1,0 +1,43 @@
+-- Steps by their numbers: what each asks, and what it answers. Assumes nothing.
+use mathlib.Core.Path.{_≡_, refl, sym, ap, _∙_, subst}
+use mathlib.Core.Bool.{false≢true, Bool, true, false, cond}
+use mathlib.Core.List.{List}
+use Prim.Native.Nat.{ℕ}
+use lib.Dec.{eqb}
+use Rattle.grammar.specs.Basic.{Bytes}
+use Rattle.grammar.specs.Tree.{E, Expr}
+use Rattle.grammar.specs.Rows.{Span}
+use Rattle.grammar.specs.Table.{Table}
+use Rattle.grammar.specs.Steps.{rotate, unroll, concatenate, factor, list}
+use Rattle.grammar.proofs.Logic.{eqb-eq}
+use Rattle.rows.specs.Rows.{At, Stands}
+use Rattle.writing.specs.Writes.{Answer}
+use Rattle.writing.specs.Keeps.{Ready, KeptAnswer}
+use Rattle.writing.specs.declared.Place.{Place}
+use Rattle.writing.specs.declared.Wrote.{Wrote}
+use Rattle.unroller.specs.Items.{Counted}
+use Rattle.passes.specs.Passes.{stepOf, grows, Prepared, StepAnswer}
+use Rattle.passes.proofs.Answers.{answer-step, kept-step}
+
+pub ready-for : {step : ℕ} (n : ℕ) {ws : List ℕ} {text : Bytes} {root : ℕ} {p : Place} {o t : List ℕ} → step ≡ n → grows n ≡ false → Stands ws root → Prepared step ws text root p o t → Ready ws text root p o t
+ready-for n h k s r = record { tree = s .tree; at = s .at; fits = r .fits (ap grows h ∙ k) (s .tree) (s .at) }
+
+pub counted-for : {step : ℕ} {ws : List ℕ} {text : Bytes} {root : ℕ} {p : Place} {o t : List ℕ} → step ≡ 3 → Stands ws root → Prepared step ws text root p o t → Counted ws root
+counted-for h s r = record { tree = s .tree; at = s .at; counts = r .counts h (s .tree) (s .at) }
+
+pub kept-by : (a : Wrote) (p : Place) {step : ℕ} (n : ℕ) (look : Table Bytes) (y : ℕ) (e x : E) (o o′ t t′ : List ℕ) → step ≡ n → stepOf n look y e ≡ x → KeptAnswer a p x o o′ t t′ → StepAnswer a p (stepOf step look y e) o o′ t t′
+kept-by a p n look y e x o o′ t t′ h q k = subst (λ (z : E). StepAnswer a p z o o′ t t′) (sym (ap (λ (m : ℕ). stepOf m look y e) h ∙ q)) (kept-step a p x o o′ t t′ k)
+
+pub exact-by : (a : Wrote) (p : Place) {step : ℕ} (n : ℕ) (look : Table Bytes) (y : ℕ) (e x : E) (o o′ t t′ : List ℕ) → step ≡ n → stepOf n look y e ≡ x → Answer a p x o o′ t t′ → StepAnswer a p (stepOf step look y e) o o′ t t′
+exact-by a p n look y e x o o′ t t′ h q k = subst (λ (z : E). StepAnswer a p z o o′ t t′) (sym (ap (λ (m : ℕ). stepOf m look y e) h ∙ q)) (answer-step a p x o o′ t t′ k)
+
+no-number : (n m : ℕ) → (n ≡ m → ⊥) → eqb n m ≡ false
+no-number n m h = go (eqb n m) refl
+  where
+    go : (b : Bool) → eqb n m ≡ b → eqb n m ≡ false
+    go true e = absurd (h (eqb-eq n m e))
+    go false e = e
+
+pub other-step : (n : ℕ) → (n ≡ 1 → ⊥) → (n ≡ 3 → ⊥) → (n ≡ 4 → ⊥) → (n ≡ 5 → ⊥) → (n ≡ 6 → ⊥) → (look : Table Bytes) (y : ℕ) (e : E) → stepOf n look y e ≡ e
+unfolding stepOf
+other-step n a b c d f look y e = rw (no-number n 1 a, no-number n 3 b, no-number n 4 c, no-number n 5 d, no-number n 6 f)
