@@ -1,0 +1,10 @@
+-- Laws of skip lists.
+pub mod Memories
+pub mod Rules
+pub mod Leaf
+pub mod Looping
+pub mod Settles
+pub mod Rotation
+pub mod Tables
+pub mod Spelling
+pub mod Skipping

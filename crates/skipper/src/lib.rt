@@ -1,0 +1,876 @@
+// Skip lists. A rule's memory is word 1 of its mark: 0 not read, 1 being read, 2 no list, 3 a list. The same numbers are a reading's answer,
+// where 1 says that it came to a rule that is being read.
+ghost use mathlib.Core.Path.{_≡_};
+ghost use mathlib.Core.List.{List};
+ghost use Prim.Native.Nat.{ℕ, _+_, _-_, _*_, _/_, _^_, _≤_, _<_};
+ghost use mathlib.Core.Option.{some};
+ghost use lib.ListN.{length, getD, getElem?};
+ghost use Rattle.grammar.specs.Basic.{Bytes, any};
+ghost use Rattle.grammar.specs.Tree.{Expr, Rep, un, skip, anyNode, asNegPred};
+ghost use Rattle.grammar.specs.Rows.{Span};
+ghost use Rattle.grammar.specs.Text.{bytesAt, resolve};
+ghost use Rattle.grammar.specs.Table.{Table, Rule, ruleWords, resolveRule, resolveTable};
+ghost use Rattle.grammar.specs.Lists.{strings, readLeft, readIn, loopOver, skipList};
+ghost use Rattle.grammar.specs.Steps.{rotate, isAtomic, topDown, orSame, skip?, skipTo};
+ghost use Rattle.rows.specs.Rows.{Inside, At, Stands, kindAt};
+ghost use Rattle.writing.specs.Writes.{Room, RowAnswer, StrsAnswer, Answer};
+ghost use Rattle.names.specs.Names.{First, Hashed, marked};
+ghost use Rattle.skipper.specs.Memory.{byMarks};
+ghost use Rattle.skipper.specs.Lends.{marksOf, Given, Lent, Ran, ReadsOf};
+ghost use Rattle.skipper.specs.Loops.{LoopAnswer, TreeRows, openAt, ruleOpen, LoopsOf};
+ghost use Rattle.skipper.specs.Lists.{ListsAnswer};
+ghost use Rattle.skipper.specs.declared.Node.the-variants.{Single, Pair};
+ghost use Rattle.skipper.specs.Skips.{nodeOf, isList, ListAnswer, Spells, Spelled, Skipped, Settles, Settling};
+use names::Found;
+use rows::Lookup;
+use rows::Shape;
+use rows::wide;
+use writing::Place;
+use writing::Wrote;
+
+const AGAIN: u32 = 1;
+
+const NONE: u32 = 2;
+
+const LIST: u32 = 3;
+
+// Where the expression of a loop stands.
+pub enum Loop {
+    Over(usize),
+    Nothing,
+}
+
+// Whether every list could be read.
+pub enum Readings {
+    Read,
+    Again,
+}
+
+// How a walk from the top goes on: with no child, with one, with two.
+pub enum Node {
+    Leaf,
+    Single,
+    Pair,
+}
+
+// Reads rule i, which was not read.
+pub fn read_rule(rules: &[u32], rows: &[u32], text: &[u8], marks: &mut [u32], i: usize) -> u32
+    requires { ⌜ Given (now rules) (now rows) (now text) (now marks) ⌝ }
+    requires { ⌜ i < length (now rules) / 4 ⌝ }
+    requires { ⌜ getD (now marks) (i * 4 + 1) 0 ≡ 0 ⌝ }
+    ensures { λ a. ⌜ Ran (now (marks .entry)) (now (marks .exit)) a ⌝ }
+    ensures { λ a. ⌜ ((t : Table Span) (x : Bytes) → Lent (now (rules .entry)) (now (rows .entry)) t → First (length (now (rules .entry)) / 4) (now (rules .entry)) (now (text .entry)) x i → ReadsOf (now (text .entry)) t (now (marks .entry)) (now (marks .exit)) a (λ look. look x)) ⌝ }
+{
+    let at = i * 4;
+    let end = wide(marks[at + 3]);
+    marks[at + 1] = AGAIN;
+    let a = read_in(rules, rows, text, marks, end - 1);
+    marks[at + 1] = a;
+    a
+}
+
+// Reads a literal: what a Choice has on its left must be Str or Ident.
+pub fn read_leaf(rules: &[u32], rows: &[u32], text: &[u8], marks: &mut [u32], root: usize) -> u32
+    requires { ⌜ Given (now rules) (now rows) (now text) (now marks) ⌝ }
+    requires { ⌜ Stands (now rows) root ⌝ }
+    ensures { λ a. ⌜ Ran (now (marks .entry)) (now (marks .exit)) a ⌝ }
+    ensures { λ a. ⌜ ((t : Table Span) (r : Expr Span) → Lent (now (rules .entry)) (now (rows .entry)) t → At (now (rows .entry)) root r → ReadsOf (now (text .entry)) t (now (marks .entry)) (now (marks .exit)) a (λ look. readLeft look (resolve (now (text .entry)) r))) ⌝ }
+{
+    let Lookup::Row {
+        kind,
+        x,
+        y,
+        size: _,
+    } = rows::row_at(rows, root)
+    else {
+        return AGAIN;
+    };
+    if kind == 0 {
+        return LIST;
+    }
+    if kind != 3 {
+        return NONE;
+    }
+    let Found::At(i) = names::find_rule(rules, text, marks, text, wide(x), wide(y)) else {
+        return NONE;
+    };
+    let mark = marks[i * 4 + 1];
+    if mark != 0 {
+        return mark;
+    }
+    read_rule(rules, rows, text, marks, i)
+}
+
+// Reads a rule's expression: of a Choice the left side, then the right.
+pub fn read_in(rules: &[u32], rows: &[u32], text: &[u8], marks: &mut [u32], root: usize) -> u32
+    requires { ⌜ Given (now rules) (now rows) (now text) (now marks) ⌝ }
+    requires { ⌜ Stands (now rows) root ⌝ }
+    ensures { λ a. ⌜ Ran (now (marks .entry)) (now (marks .exit)) a ⌝ }
+    ensures { λ a. ⌜ ((t : Table Span) (r : Expr Span) → Lent (now (rules .entry)) (now (rows .entry)) t → At (now (rows .entry)) root r → ReadsOf (now (text .entry)) t (now (marks .entry)) (now (marks .exit)) a (λ look. readIn look (resolve (now (text .entry)) r))) ⌝ }
+{
+    let Lookup::Row {
+        kind,
+        x: _,
+        y: _,
+        size: _,
+    } = rows::row_at(rows, root)
+    else {
+        return AGAIN;
+    };
+    if kind != 9 {
+        return read_leaf(rules, rows, text, marks, root);
+    }
+    let right = root - 1;
+    let Lookup::Row {
+        kind: _,
+        x: _,
+        y: _,
+        size: n,
+    } = rows::row_at(rows, right)
+    else {
+        return AGAIN;
+    };
+    let a = read_leaf(rules, rows, text, marks, right - wide(n));
+    if a != LIST {
+        return a;
+    }
+    read_in(rules, rows, text, marks, right)
+}
+
+// Reads the expression of a loop, which counts as rotated: the leaves of its Choice tree from left to right.
+pub fn read_leaves(rules: &[u32], rows: &[u32], text: &[u8], marks: &mut [u32], root: usize) -> u32
+    requires { ⌜ Given (now rules) (now rows) (now text) (now marks) ⌝ }
+    requires { ⌜ Stands (now rows) root ⌝ }
+    ensures { λ a. ⌜ Ran (now (marks .entry)) (now (marks .exit)) a ⌝ }
+    ensures { λ a. ⌜ ((t : Table Span) (r : Expr Span) → Lent (now (rules .entry)) (now (rows .entry)) t → At (now (rows .entry)) root r → ReadsOf (now (text .entry)) t (now (marks .entry)) (now (marks .exit)) a (λ look. readIn look (rotate (resolve (now (text .entry)) r)))) ⌝ }
+{
+    let Lookup::Row {
+        kind,
+        x: _,
+        y: _,
+        size: _,
+    } = rows::row_at(rows, root)
+    else {
+        return AGAIN;
+    };
+    if kind != 9 {
+        return read_leaf(rules, rows, text, marks, root);
+    }
+    let right = root - 1;
+    let Lookup::Row {
+        kind: _,
+        x: _,
+        y: _,
+        size: n,
+    } = rows::row_at(rows, right)
+    else {
+        return AGAIN;
+    };
+    let first = read_leaves(rules, rows, text, marks, right - wide(n));
+    if first != LIST {
+        return first;
+    }
+    read_leaves(rules, rows, text, marks, right)
+}
+
+// The row of e where !e ~ ANY stands at `root`.
+pub fn in_loop(rows: &[u32], text: &[u8], root: usize) -> Loop
+    requires { ⌜ Inside (now rows) (length (now text)) ⌝ }
+    requires { ⌜ Stands (now rows) root ⌝ }
+    ensures { λ a. ⌜ ((r : Expr Span) → At (now (rows .entry)) root r → LoopAnswer a (now (rows .entry)) (now (text .entry)) (loopOver (un Rep (resolve (now (text .entry)) r)))) ⌝ }
+{
+    let Lookup::Row {
+        kind,
+        x: _,
+        y: _,
+        size: _,
+    } = rows::row_at(rows, root)
+    else {
+        return Loop::Nothing;
+    };
+    if kind != 8 {
+        return Loop::Nothing;
+    }
+    let right = root - 1;
+    let Lookup::Row {
+        kind: k,
+        x,
+        y,
+        size: _,
+    } = rows::row_at(rows, right)
+    else {
+        return Loop::Nothing;
+    };
+    if k != 3 {
+        return Loop::Nothing;
+    }
+    if names::is_any(text, wide(x), wide(y)) {
+        after_not(rows, right - 1)
+    } else {
+        Loop::Nothing
+    }
+}
+
+// The row of e where !e stands at `root`.
+pub fn after_not(rows: &[u32], root: usize) -> Loop
+    requires { ⌜ Stands (now rows) root ⌝ }
+    ensures { λ a. ⌜ ((s : Bytes) (r : Expr Span) → At (now (rows .entry)) root r → LoopAnswer a (now (rows .entry)) s (asNegPred (resolve s r))) ⌝ }
+{
+    let Lookup::Row {
+        kind,
+        x: _,
+        y: _,
+        size: _,
+    } = rows::row_at(rows, root)
+    else {
+        return Loop::Nothing;
+    };
+    if kind != 7 {
+        return Loop::Nothing;
+    }
+    Loop::Over(root - 1)
+}
+
+// Reads row i if it is a loop (!e ~ ANY)*.
+pub fn read_loop(rules: &[u32], rows: &[u32], text: &[u8], marks: &mut [u32], i: usize) -> u32
+    requires { ⌜ Given (now rules) (now rows) (now text) (now marks) ⌝ }
+    requires { ⌜ Stands (now rows) i ⌝ }
+    ensures { λ a. ⌜ Ran (now (marks .entry)) (now (marks .exit)) a ⌝ }
+    ensures { λ a. ⌜ ((t : Table Span) (r : Expr Span) → Lent (now (rules .entry)) (now (rows .entry)) t → At (now (rows .entry)) i r → LoopsOf (now (text .entry)) t (now (marks .entry)) (now (marks .exit)) a (λ look. openAt look (resolve (now (text .entry)) r))) ⌝ }
+{
+    let Lookup::Row {
+        kind,
+        x: _,
+        y: _,
+        size: _,
+    } = rows::row_at(rows, i)
+    else {
+        return LIST;
+    };
+    if kind != 11 {
+        return LIST;
+    }
+    let Loop::Over(e) = in_loop(rows, text, i - 1) else {
+        return LIST;
+    };
+    read_leaves(rules, rows, text, marks, e)
+}
+
+// Reads the loops of the rows from `from` to `end`, which are one tree.
+pub fn read_loops(
+    rules: &[u32],
+    rows: &[u32],
+    text: &[u8],
+    marks: &mut [u32],
+    from: usize,
+    end: usize,
+) -> u32
+    requires { ⌜ Given (now rules) (now rows) (now text) (now marks) ⌝ }
+    requires { ⌜ TreeRows (now rows) from end ⌝ }
+    ensures { λ a. ⌜ Ran (now (marks .entry)) (now (marks .exit)) a ⌝ }
+    ensures { λ a. ⌜ ((t : Table Span) (r : Expr Span) → Lent (now (rules .entry)) (now (rows .entry)) t → At (now (rows .entry)) (end - 1) r → LoopsOf (now (text .entry)) t (now (marks .entry)) (now (marks .exit)) a (λ look. anyNode (openAt look) (resolve (now (text .entry)) r))) ⌝ }
+{
+    let mut i = from;
+    while i < end {
+        let a = read_loop(rules, rows, text, marks, i);
+        if a == AGAIN {
+            return AGAIN;
+        }
+        i += 1;
+    }
+    LIST
+}
+
+// Reads the loops of rule k, if it is Atomic.
+pub fn read_atomic(rules: &[u32], rows: &[u32], text: &[u8], marks: &mut [u32], k: usize) -> u32
+    requires { ⌜ Given (now rules) (now rows) (now text) (now marks) ⌝ }
+    requires { ⌜ k < length (now rules) / 4 ⌝ }
+    ensures { λ a. ⌜ Ran (now (marks .entry)) (now (marks .exit)) a ⌝ }
+    ensures { λ a. ⌜ ((t : Table Span) (r : Rule Span) → Lent (now (rules .entry)) (now (rows .entry)) t → getElem? t k ≡ some r → LoopsOf (now (text .entry)) t (now (marks .entry)) (now (marks .exit)) a (λ look. ruleOpen look (resolveRule (now (text .entry)) r))) ⌝ }
+{
+    let at = k * 4;
+    if rules[at + 2] != 2 {
+        return LIST;
+    }
+    let end = wide(marks[at + 3]);
+    read_loops(rules, rows, text, marks, end - wide(rules[at + 3]), end)
+}
+
+// Reads the loops of all Atomic rules.
+pub fn read_rules(rules: &[u32], rows: &[u32], text: &[u8], marks: &mut [u32]) -> u32
+    requires { ⌜ Given (now rules) (now rows) (now text) (now marks) ⌝ }
+    ensures { λ a. ⌜ Ran (now (marks .entry)) (now (marks .exit)) a ⌝ }
+    ensures { λ a. ⌜ ((t : Table Span) → Lent (now (rules .entry)) (now (rows .entry)) t → LoopsOf (now (text .entry)) t (now (marks .entry)) (now (marks .exit)) a (λ look. any (ruleOpen look) (resolveTable (now (text .entry)) t))) ⌝ }
+{
+    let count = rules.len() / 4;
+    let mut k = 0;
+    while k < count {
+        let a = read_atomic(rules, rows, text, marks, k);
+        if a == AGAIN {
+            return AGAIN;
+        }
+        k += 1;
+    }
+    LIST
+}
+
+// Clears the memories of the first `count` rules.
+pub fn forget(marks: &mut [u32], count: usize)
+    requires { ⌜ count * 4 ≤ length (now marks) ⌝ }
+    ensures { λ _. ⌜ now (marks .exit) ≡ marked (λ _. 0) 1 count (now (marks .entry)) ⌝ }
+{
+    let mut i = 0;
+    while i < count {
+        marks[i * 4 + 1] = 0;
+        i += 1;
+    }
+}
+
+// Reads every skip list of a table as it was given. Again is refusal 7.
+pub fn read_lists(rules: &[u32], rows: &[u32], text: &[u8], marks: &mut [u32]) -> Readings
+    requires { ⌜ Given (now rules) (now rows) (now text) (now marks) ⌝ }
+    ensures { λ _. ⌜ Given (now (rules .entry)) (now (rows .entry)) (now (text .entry)) (now (marks .exit)) ⌝ }
+    ensures { λ a. ⌜ ((t : Table Span) → Lent (now (rules .entry)) (now (rows .entry)) t → ListsAnswer a (resolveTable (now (text .entry)) t) (now (marks .exit))) ⌝ }
+{
+    forget(marks, rules.len() / 4);
+    let a = read_rules(rules, rows, text, marks);
+    if a == AGAIN {
+        Readings::Again
+    } else {
+        Readings::Read
+    }
+}
+
+// How a walk goes on at a row of a kind.
+pub fn node_of(kind: u32) -> Node
+    ensures { λ r. ⌜ r ≡ nodeOf kind ⌝ }
+{
+    match rows::shape_of(kind) {
+        Shape::Lit => Node::Leaf,
+        Shape::Num => Node::Leaf,
+        Shape::One => Node::Single,
+        Shape::Two => Node::Pair,
+        Shape::Skips => Node::Leaf,
+    }
+}
+
+// Whether a literal has a list, by the marks of the table with the text `given`.
+pub fn leaf_listed(
+    rules: &[u32],
+    given: &[u8],
+    marks: &[u32],
+    rows: &[u32],
+    text: &[u8],
+    root: usize,
+) -> bool
+    requires { ⌜ Hashed (now rules) (now given) (now marks) ⌝ }
+    requires { ⌜ Inside (now rows) (length (now text)) ⌝ }
+    requires { ⌜ Stands (now rows) root ⌝ }
+    ensures { λ b. ⌜ ((t : Table Span) (r : Expr Span) → now (rules .entry) ≡ ruleWords t → At (now (rows .entry)) root r → b ≡ isList (readLeft (byMarks (marksOf (resolveTable (now (given .entry)) t) (now (marks .entry)))) (resolve (now (text .entry)) r))) ⌝ }
+{
+    let Lookup::Row {
+        kind,
+        x,
+        y,
+        size: _,
+    } = rows::row_at(rows, root)
+    else {
+        return false;
+    };
+    if kind == 0 {
+        return true;
+    }
+    if kind != 3 {
+        return false;
+    }
+    let Found::At(i) = names::find_rule(rules, given, marks, text, wide(x), wide(y)) else {
+        return false;
+    };
+    marks[i * 4 + 1] == LIST
+}
+
+// Whether an expression has a list, by the marks.
+pub fn listed(
+    rules: &[u32],
+    given: &[u8],
+    marks: &[u32],
+    rows: &[u32],
+    text: &[u8],
+    root: usize,
+) -> bool
+    requires { ⌜ Hashed (now rules) (now given) (now marks) ⌝ }
+    requires { ⌜ Inside (now rows) (length (now text)) ⌝ }
+    requires { ⌜ Stands (now rows) root ⌝ }
+    ensures { λ b. ⌜ ((t : Table Span) (r : Expr Span) → now (rules .entry) ≡ ruleWords t → At (now (rows .entry)) root r → b ≡ isList (readIn (byMarks (marksOf (resolveTable (now (given .entry)) t) (now (marks .entry)))) (resolve (now (text .entry)) r))) ⌝ }
+{
+    let Lookup::Row {
+        kind,
+        x: _,
+        y: _,
+        size: _,
+    } = rows::row_at(rows, root)
+    else {
+        return false;
+    };
+    if kind != 9 {
+        return leaf_listed(rules, given, marks, rows, text, root);
+    }
+    let right = root - 1;
+    let Lookup::Row {
+        kind: _,
+        x: _,
+        y: _,
+        size: n,
+    } = rows::row_at(rows, right)
+    else {
+        return false;
+    };
+    if leaf_listed(rules, given, marks, rows, text, right - wide(n)) {
+        listed(rules, given, marks, rows, text, right)
+    } else {
+        false
+    }
+}
+
+// The row of e where a loop (!e ~ ANY)* stands at `root` and e has a list.
+pub fn list_at(
+    rules: &[u32],
+    given: &[u8],
+    marks: &[u32],
+    rows: &[u32],
+    text: &[u8],
+    root: usize,
+) -> Loop
+    requires { ⌜ Hashed (now rules) (now given) (now marks) ⌝ }
+    requires { ⌜ Inside (now rows) (length (now text)) ⌝ }
+    requires { ⌜ Stands (now rows) root ⌝ }
+    ensures { λ a. ⌜ ((t : Table Span) (r : Expr Span) → now (rules .entry) ≡ ruleWords t → At (now (rows .entry)) root r → ListAnswer a (now (rows .entry)) (now (text .entry)) (byMarks (marksOf (resolveTable (now (given .entry)) t) (now (marks .entry)))) (resolve (now (text .entry)) r)) ⌝ }
+{
+    let Lookup::Row {
+        kind,
+        x: _,
+        y: _,
+        size: _,
+    } = rows::row_at(rows, root)
+    else {
+        return Loop::Nothing;
+    };
+    if kind != 11 {
+        return Loop::Nothing;
+    }
+    let Loop::Over(e) = in_loop(rows, text, root - 1) else {
+        return Loop::Nothing;
+    };
+    if listed(rules, given, marks, rows, text, e) {
+        Loop::Over(e)
+    } else {
+        Loop::Nothing
+    }
+}
+
+// Writes the strings of a literal: itself, or those of the rule that it names, through at most `fuel` rules.
+pub fn write_leaf(
+    given_rules: &[u32],
+    given_rows: &[u32],
+    given_text: &[u8],
+    marks: &[u32],
+    rows: &[u32],
+    text: &[u8],
+    root: usize,
+    fuel: usize,
+    out: &mut [u32],
+    lits: &mut [u8],
+    p: Place,
+) -> Wrote
+    requires { ⌜ Given (now «given_rules») (now «given_rows») (now «given_text») (now marks) ⌝ }
+    requires { ⌜ Inside (now rows) (length (now text)) ⌝ }
+    requires { ⌜ Spelled (now «given_rules») (now «given_rows») (now «given_text») (now rows) (now text) root fuel readLeft ⌝ }
+    requires { ⌜ Room p (now out) (now lits) ⌝ }
+    ensures { λ a. ⌜ ((t : Table Span) (r : Expr Span) (ss : List Bytes) → Lent (now («given_rules» .entry)) (now («given_rows» .entry)) t → At (now (rows .entry)) root r → Spells (resolveTable (now («given_text» .entry)) t) fuel (λ look. readLeft look (resolve (now (text .entry)) r)) ss → StrsAnswer a p ss (now (out .entry)) (now (out .exit)) (now (lits .entry)) (now (lits .exit))) ⌝ }
+{
+    let Lookup::Row {
+        kind,
+        x,
+        y,
+        size: _,
+    } = rows::row_at(rows, root)
+    else {
+        return Wrote::Full;
+    };
+    if kind == 0 {
+        return writing::put_lit(text, wide(x), wide(y), 0, out, lits, p);
+    }
+    let Found::At(i) = names::find_rule(given_rules, given_text, marks, text, wide(x), wide(y))
+    else {
+        return Wrote::Full;
+    };
+    let end = wide(marks[i * 4 + 3]);
+    write_list(
+        given_rules,
+        given_rows,
+        given_text,
+        marks,
+        given_rows,
+        given_text,
+        end - 1,
+        fuel - 1,
+        out,
+        lits,
+        p,
+    )
+}
+
+// Writes the strings of an expression that has a list, in reading order.
+pub fn write_list(
+    given_rules: &[u32],
+    given_rows: &[u32],
+    given_text: &[u8],
+    marks: &[u32],
+    rows: &[u32],
+    text: &[u8],
+    root: usize,
+    fuel: usize,
+    out: &mut [u32],
+    lits: &mut [u8],
+    p: Place,
+) -> Wrote
+    requires { ⌜ Given (now «given_rules») (now «given_rows») (now «given_text») (now marks) ⌝ }
+    requires { ⌜ Inside (now rows) (length (now text)) ⌝ }
+    requires { ⌜ Spelled (now «given_rules») (now «given_rows») (now «given_text») (now rows) (now text) root fuel readIn ⌝ }
+    requires { ⌜ Room p (now out) (now lits) ⌝ }
+    ensures { λ a. ⌜ ((t : Table Span) (r : Expr Span) (ss : List Bytes) → Lent (now («given_rules» .entry)) (now («given_rows» .entry)) t → At (now (rows .entry)) root r → Spells (resolveTable (now («given_text» .entry)) t) fuel (λ look. readIn look (resolve (now (text .entry)) r)) ss → StrsAnswer a p ss (now (out .entry)) (now (out .exit)) (now (lits .entry)) (now (lits .exit))) ⌝ }
+{
+    let Lookup::Row {
+        kind,
+        x: _,
+        y: _,
+        size: _,
+    } = rows::row_at(rows, root)
+    else {
+        return Wrote::Full;
+    };
+    if kind != 9 {
+        return write_leaf(
+            given_rules,
+            given_rows,
+            given_text,
+            marks,
+            rows,
+            text,
+            root,
+            fuel,
+            out,
+            lits,
+            p,
+        );
+    }
+    let right = root - 1;
+    let Lookup::Row {
+        kind: _,
+        x: _,
+        y: _,
+        size: n,
+    } = rows::row_at(rows, right)
+    else {
+        return Wrote::Full;
+    };
+    let left = right - wide(n);
+    let Wrote::Done(q) = write_leaf(
+        given_rules,
+        given_rows,
+        given_text,
+        marks,
+        rows,
+        text,
+        left,
+        fuel,
+        out,
+        lits,
+        p,
+    ) else {
+        return Wrote::Full;
+    };
+    write_list(
+        given_rules,
+        given_rows,
+        given_text,
+        marks,
+        rows,
+        text,
+        right,
+        fuel,
+        out,
+        lits,
+        q,
+    )
+}
+
+// Writes the root row over what stands from p to q.
+pub fn put_node(out: &mut [u32], p: Place, q: Place, kind: u32, x: u32, y: u32) -> Wrote
+    requires { ⌜ (p .rows ≤ q .rows) × (q .rows + 1 < 2 ^ 32) ⌝ }
+    ensures { λ a. ⌜ RowAnswer a q (kind, x, y) (q .rows - p .rows + 1) (now (out .entry)) (now (out .exit)) ⌝ }
+{
+    let n = q.rows - p.rows + 1;
+    writing::put_row(out, q, kind, x, y, n as u32)
+}
+
+// Writes the Skip of a loop's expression that has a list.
+pub fn write_skip(
+    given_rules: &[u32],
+    given_rows: &[u32],
+    given_text: &[u8],
+    marks: &[u32],
+    rows: &[u32],
+    text: &[u8],
+    root: usize,
+    out: &mut [u32],
+    lits: &mut [u8],
+    p: Place,
+) -> Wrote
+    requires { ⌜ Given (now «given_rules») (now «given_rows») (now «given_text») (now marks) ⌝ }
+    requires { ⌜ Inside (now rows) (length (now text)) ⌝ }
+    requires { ⌜ Skipped (now «given_rules») (now «given_rows») (now «given_text») (now rows) (now text) root ⌝ }
+    requires { ⌜ Room p (now out) (now lits) ⌝ }
+    ensures { λ a. ⌜ ((t : Table Span) (r : Expr Span) (ss : List Bytes) → Lent (now («given_rules» .entry)) (now («given_rows» .entry)) t → At (now (rows .entry)) root r → skipList (resolveTable (now («given_text» .entry)) t) (resolve (now (text .entry)) r) ≡ strings ss → Answer a p (skip ss) (now (out .entry)) (now (out .exit)) (now (lits .entry)) (now (lits .exit))) ⌝ }
+{
+    let fuel = given_rules.len() / 4 + 1;
+    let Wrote::Done(q) = write_list(
+        given_rules,
+        given_rows,
+        given_text,
+        marks,
+        rows,
+        text,
+        root,
+        fuel,
+        out,
+        lits,
+        p,
+    ) else {
+        return Wrote::Full;
+    };
+    let n = q.rows - p.rows;
+    put_node(out, p, q, 17, n as u32, 0)
+}
+
+// Step 2 at a row with one child.
+pub fn skip_one(
+    given_rules: &[u32],
+    given_rows: &[u32],
+    given_text: &[u8],
+    marks: &[u32],
+    rows: &[u32],
+    text: &[u8],
+    root: usize,
+    out: &mut [u32],
+    lits: &mut [u8],
+    p: Place,
+) -> Wrote
+    requires { ⌜ Given (now «given_rules») (now «given_rows») (now «given_text») (now marks) ⌝ }
+    requires { ⌜ Inside (now rows) (length (now text)) ⌝ }
+    requires { ⌜ Settling (now «given_rules») (now «given_rows») (now «given_text») (now marks) (now rows) (now text) root ⌝ }
+    requires { ⌜ nodeOf (kindAt (now rows) root) ≡ Single ⌝ }
+    requires { ⌜ Room p (now out) (now lits) ⌝ }
+    ensures { λ a. ⌜ ((t : Table Span) (r : Expr Span) → Lent (now («given_rules» .entry)) (now («given_rows» .entry)) t → At (now (rows .entry)) root r → Settles (resolveTable (now («given_text» .entry)) t) (now (marks .entry)) (resolve (now (text .entry)) r) → Answer a p (topDown (orSame (skip? (resolveTable (now («given_text» .entry)) t))) (resolve (now (text .entry)) r)) (now (out .entry)) (now (out .exit)) (now (lits .entry)) (now (lits .exit))) ⌝ }
+{
+    match list_at(given_rules, given_text, marks, rows, text, root) {
+        Loop::Over(e) => write_skip(
+            given_rules,
+            given_rows,
+            given_text,
+            marks,
+            rows,
+            text,
+            e,
+            out,
+            lits,
+            p,
+        ),
+        Loop::Nothing => {
+            let Lookup::Row {
+                kind,
+                x,
+                y,
+                size: _,
+            } = rows::row_at(rows, root)
+            else {
+                return Wrote::Full;
+            };
+            let Wrote::Done(q) = skip_tree(
+                given_rules,
+                given_rows,
+                given_text,
+                marks,
+                rows,
+                text,
+                root - 1,
+                out,
+                lits,
+                p,
+            ) else {
+                return Wrote::Full;
+            };
+            put_node(out, p, q, kind, x, y)
+        }
+    }
+}
+
+// Step 2 at a row with two children.
+pub fn skip_two(
+    given_rules: &[u32],
+    given_rows: &[u32],
+    given_text: &[u8],
+    marks: &[u32],
+    rows: &[u32],
+    text: &[u8],
+    root: usize,
+    kind: u32,
+    out: &mut [u32],
+    lits: &mut [u8],
+    p: Place,
+) -> Wrote
+    requires { ⌜ Given (now «given_rules») (now «given_rows») (now «given_text») (now marks) ⌝ }
+    requires { ⌜ Inside (now rows) (length (now text)) ⌝ }
+    requires { ⌜ Settling (now «given_rules») (now «given_rows») (now «given_text») (now marks) (now rows) (now text) root ⌝ }
+    requires { ⌜ (kind ≡ kindAt (now rows) root) × (nodeOf kind ≡ Pair) ⌝ }
+    requires { ⌜ Room p (now out) (now lits) ⌝ }
+    ensures { λ a. ⌜ ((t : Table Span) (r : Expr Span) → Lent (now («given_rules» .entry)) (now («given_rows» .entry)) t → At (now (rows .entry)) root r → Settles (resolveTable (now («given_text» .entry)) t) (now (marks .entry)) (resolve (now (text .entry)) r) → Answer a p (topDown (orSame (skip? (resolveTable (now («given_text» .entry)) t))) (resolve (now (text .entry)) r)) (now (out .entry)) (now (out .exit)) (now (lits .entry)) (now (lits .exit))) ⌝ }
+{
+    let right = root - 1;
+    let Lookup::Row {
+        kind: _,
+        x: _,
+        y: _,
+        size: n,
+    } = rows::row_at(rows, right)
+    else {
+        return Wrote::Full;
+    };
+    let left = right - wide(n);
+    let Wrote::Done(q) = skip_tree(
+        given_rules,
+        given_rows,
+        given_text,
+        marks,
+        rows,
+        text,
+        left,
+        out,
+        lits,
+        p,
+    ) else {
+        return Wrote::Full;
+    };
+    let Wrote::Done(s) = skip_tree(
+        given_rules,
+        given_rows,
+        given_text,
+        marks,
+        rows,
+        text,
+        right,
+        out,
+        lits,
+        q,
+    ) else {
+        return Wrote::Full;
+    };
+    put_node(out, p, s, kind, 0, 0)
+}
+
+// Step 2 from the top of a subtree, as it stands after step 1, with lists looked up in the table as it was given.
+pub fn skip_tree(
+    given_rules: &[u32],
+    given_rows: &[u32],
+    given_text: &[u8],
+    marks: &[u32],
+    rows: &[u32],
+    text: &[u8],
+    root: usize,
+    out: &mut [u32],
+    lits: &mut [u8],
+    p: Place,
+) -> Wrote
+    requires { ⌜ Given (now «given_rules») (now «given_rows») (now «given_text») (now marks) ⌝ }
+    requires { ⌜ Inside (now rows) (length (now text)) ⌝ }
+    requires { ⌜ Settling (now «given_rules») (now «given_rows») (now «given_text») (now marks) (now rows) (now text) root ⌝ }
+    requires { ⌜ Room p (now out) (now lits) ⌝ }
+    ensures { λ a. ⌜ ((t : Table Span) (r : Expr Span) → Lent (now («given_rules» .entry)) (now («given_rows» .entry)) t → At (now (rows .entry)) root r → Settles (resolveTable (now («given_text» .entry)) t) (now (marks .entry)) (resolve (now (text .entry)) r) → Answer a p (topDown (orSame (skip? (resolveTable (now («given_text» .entry)) t))) (resolve (now (text .entry)) r)) (now (out .entry)) (now (out .exit)) (now (lits .entry)) (now (lits .exit))) ⌝ }
+{
+    let Lookup::Row {
+        kind,
+        x: _,
+        y: _,
+        size: _,
+    } = rows::row_at(rows, root)
+    else {
+        return Wrote::Full;
+    };
+    match node_of(kind) {
+        Node::Leaf => writing::copy(rows, text, root, out, lits, p),
+        Node::Single => skip_one(
+            given_rules,
+            given_rows,
+            given_text,
+            marks,
+            rows,
+            text,
+            root,
+            out,
+            lits,
+            p,
+        ),
+        Node::Pair => skip_two(
+            given_rules,
+            given_rows,
+            given_text,
+            marks,
+            rows,
+            text,
+            root,
+            kind,
+            out,
+            lits,
+            p,
+        ),
+    }
+}
+
+// Step 2 of a rule's expression, as it stands after step 1: "Atomic only".
+pub fn skip(
+    given_rules: &[u32],
+    given_rows: &[u32],
+    given_text: &[u8],
+    marks: &[u32],
+    rows: &[u32],
+    text: &[u8],
+    root: usize,
+    rule_type: u32,
+    out: &mut [u32],
+    lits: &mut [u8],
+    p: Place,
+) -> Wrote
+    requires { ⌜ Given (now «given_rules») (now «given_rows») (now «given_text») (now marks) ⌝ }
+    requires { ⌜ Inside (now rows) (length (now text)) ⌝ }
+    requires { ⌜ Stands (now rows) root ⌝ }
+    requires { ⌜ («rule_type» ≡ 2 → Settling (now «given_rules») (now «given_rows») (now «given_text») (now marks) (now rows) (now text) root) ⌝ }
+    requires { ⌜ Room p (now out) (now lits) ⌝ }
+    ensures { λ a. ⌜ ((t : Table Span) (r : Expr Span) → Lent (now («given_rules» .entry)) (now («given_rows» .entry)) t → At (now (rows .entry)) root r → («rule_type» ≡ 2 → Settles (resolveTable (now («given_text» .entry)) t) (now (marks .entry)) (resolve (now (text .entry)) r)) → Answer a p (skipTo (resolveTable (now («given_text» .entry)) t) «rule_type» (resolve (now (text .entry)) r)) (now (out .entry)) (now (out .exit)) (now (lits .entry)) (now (lits .exit))) ⌝ }
+{
+    if rule_type == 2 {
+        skip_tree(
+            given_rules,
+            given_rows,
+            given_text,
+            marks,
+            rows,
+            text,
+            root,
+            out,
+            lits,
+            p,
+        )
+    } else {
+        writing::copy(rows, text, root, out, lits, p)
+    }
+}
