@@ -76,9 +76,9 @@ kept-within {q} {p} {e} {o} {o′} h k =
     omega (arith, a, k .rows, length-take (q .rows * 4) o′, length-take (p .rows * 4) o)
 
 -- what is asked of the rule is asked of its tree, after its name
-pub prepared : {q p : Place} {s t t′ : List ℕ} {step : ℕ} {rs₀ ws₀ ws : List ℕ} {text : Bytes} {root : ℕ} {o : List ℕ} → NamePut q p s t t′ → RulePrepared step rs₀ ws₀ ws text root p s o t → Prepared step ws text root q o t′
-prepared {q} {p} {s} {t} {t′} {step} {rs₀} {ws₀} {ws} {text} n r =
+pub prepared : {q p : Place} {s t t′ : List ℕ} {step type : ℕ} {rs₀ ws₀ : List ℕ} {text₀ : Bytes} {marks ws : List ℕ} {text : Bytes} {root : ℕ} {o : List ℕ} → NamePut q p s t t′ → RulePrepared step type rs₀ ws₀ text₀ marks ws text root p s o t → Prepared step type rs₀ ws₀ text₀ marks ws text root q o t′
+prepared {q} {p} {s} {t} {t′} {step} {type} {rs₀} {ws₀} {text₀} {marks} {ws} {text} n r =
     record {
       fits = λ k x a. let f = r .fits k x a in record { rows = omega (arith, f .rows, n .rows); text = omega (arith, f .text, n .text, name-length n, length-append s (textOf (resolve text x))) };
-      counts = r .counts;
+      asks = r .asks;
     }

@@ -11,7 +11,7 @@ use Rattle.grammar.specs.Tree.{E, Expr, size, anyNode}
 use Rattle.grammar.specs.Rows.{Span}
 use Rattle.grammar.specs.Text.{bytesAt, resolve, textOf}
 use Rattle.grammar.specs.Table.{Rule, Table, Atomic, rowCount, ruleText, tableText, resolveRule, resolveTable}
-use Rattle.grammar.specs.Steps.{each, onRule, orSame, bottomUp, concat?, rotate, unroll, concatenate, factor, list}
+use Rattle.grammar.specs.Steps.{each, onRule, orSame, bottomUp, concat?, rotate, skipTo, unroll, concatenate, factor, list}
 use Rattle.grammar.proofs.Logic.{eqb-eq}
 use Rattle.rotator.proofs.Rotations.{rotate-size, rotate-text}
 use Rattle.concatenator.proofs.Concats.{concat-size, concat-text}
@@ -19,7 +19,7 @@ use Rattle.factorizer.proofs.Factors.{factor-size, factor-text}
 use Rattle.lister.proofs.Lists.{list-size, list-text}
 use Rattle.grammar.specs.Refusals.{zeroCount, zeroCounts}
 use Rattle.writing.specs.declared.Place.{Place}
-use Rattle.passes.specs.Passes.{stepOf, grows, RuleFits, TableFits}
+use Rattle.passes.specs.Passes.{stepOf, grows, Asks, AsksAll, RuleFits, TableFits}
 use Rattle.passes.proofs.Tables.{count-append, text-append, resolve-append}
 use Rattle.passes.proofs.Progress.{Progress}
 
@@ -52,6 +52,10 @@ step-five look y e = refl
 pub step-six : (look : Table Bytes) (y : ℕ) (e : E) → stepOf 6 look y e ≡ list e
 unfolding stepOf
 step-six look y e = refl
+
+pub step-two : (look : Table Bytes) (y : ℕ) (e : E) → stepOf 2 look y e ≡ skipTo look y e
+unfolding stepOf
+step-two look y e = refl
 
 -- a step that cannot grow
 by-number : (P : E → Type 0) (n : ℕ) → grows n ≡ false → (look : Table Bytes) (y : ℕ) (e : E) → P (rotate e) → P (concatenate y e) → P (factor y e) → P (list e) → P (stepOf n look y e)
@@ -93,19 +97,7 @@ rule-fits-same {F} {ts} {text} {i} {end} {p} {os} {os′} {o} {s} g r rest w les
     let b : length (tableText (resolveTable text ts)) ≡ length (tableText D) + (length (ruleText x) + length (tableText R)) = ap (λ (t : Table Bytes). length (tableText t)) split ∙ ap length (text-append D (x ∷ R)) ∙ length-append (tableText D) (tableText (x ∷ R)) ∙ ap (λ (n : ℕ). length (tableText D) + n) (length-append (ruleText x) (tableText R)) in
     record { rows = omega (arith, f .rows, a, g .front .rows, each-rows F less text-less D); text = omega (arith, f .text, b, g .front .text, each-text F less text-less D) }
 
--- no rule of a table without zero counts has one
-or-no-left : (a b : Bool) → (a || b) ≡ false → a ≡ false
-or-no-left true b h = absurd (false≢true (sym h))
-or-no-left false b h = refl
-
-or-no-right : (a b : Bool) → (a || b) ≡ false → b ≡ false
-or-no-right true b h = absurd (false≢true (sym h))
-or-no-right false b h = h
-
-any-part : (p : Rule Span → Bool) (done : Table Span) (r : Rule Span) (rest : Table Span) → any p (done ++ (r ∷ rest)) ≡ false → p r ≡ false
-any-part p [] r rest h = or-no-left (p r) (any p rest) h
-any-part p (x ∷ done) r rest h = any-part p done r rest (or-no-right (p x) (any p (done ++ (r ∷ rest))) h)
-
-pub no-zero : (ts done : Table Span) (r : Rule Span) (rest : Table Span) → ts ≡ done ++ (r ∷ rest) → zeroCounts ts ≡ false → anyNode zeroCount (r .body) ≡ false
-unfolding zeroCounts
-no-zero ts done r rest w h = any-part (λ x. anyNode zeroCount (x .body)) done r rest (ap (any (λ x. anyNode zeroCount (x .body))) (sym w) ∙ h)
+-- what is asked of every rule of a table is asked of each
+pub asks-part : {step : ℕ} {rs₀ ws₀ : List ℕ} {text₀ : Bytes} {marks : List ℕ} {text : Bytes} (done : Table Span) (r : Rule Span) (rest : Table Span) → AsksAll step rs₀ ws₀ text₀ marks text (done ++ (r ∷ rest)) → Asks step (r .type) rs₀ ws₀ text₀ marks text (r .body)
+asks-part [] r rest h = h .0
+asks-part (x ∷ done) r rest h = asks-part done r rest (h .1)

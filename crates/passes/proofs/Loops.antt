@@ -5,8 +5,7 @@ use Prim.Native.Nat.{ℕ, _+_, _-_, _*_, _/_, _≤_, _<_}
 use native.Mathlib.Omega.{arith}
 use lib.ListN.{length, take, getD, length-append, length-take}
 use Rattle.grammar.specs.Basic.{Bytes}
-use Rattle.grammar.specs.Tree.{E, Expr, size, anyNode}
-use Rattle.grammar.specs.Refusals.{zeroCount, zeroCounts}
+use Rattle.grammar.specs.Tree.{E, Expr, size}
 use mathlib.Core.Bool.{Bool, false}
 use Rattle.grammar.specs.Rows.{Span, flat}
 use Rattle.grammar.specs.Text.{bytesAt, resolve, textOf, packed}
@@ -16,12 +15,12 @@ use Rattle.grammar.proofs.Packing.{packed-size}
 use Rattle.rows.specs.Rows.{At, Stands}
 use Rattle.rows.proofs.Laws.{length-flat}
 use Rattle.rows.proofs.Views.{at-unique}
-use Rattle.passes.proofs.Growth.{stepOf-less, stepOf-text, no-zero, rule-fits-same}
+use Rattle.passes.proofs.Growth.{stepOf-less, stepOf-text, asks-part, rule-fits-same}
 use Rattle.writing.specs.Writes.{Areas, Room}
 use Rattle.writing.specs.declared.Place.{Place}
 use Rattle.writing.specs.declared.Wrote.{Wrote}
 use Rattle.writing.specs.declared.Wrote.the-variants.{Done, Full}
-use Rattle.passes.specs.Passes.{stepOf, grows, Lent, RulePrepared, RuleReady, RuleFits, RuleKept, RuleAnswer, Holds, Passing, TableFits, Front}
+use Rattle.passes.specs.Passes.{stepOf, grows, Asks, AsksAll, Lent, RulePrepared, RuleReady, RuleFits, RuleKept, RuleAnswer, Holds, Passing, TableFits, Front}
 use Rattle.passes.proofs.Tables.{count-append}
 use Rattle.passes.proofs.Progress.{Progress, Next, start, next-rule, the-next, progress-next, rule-fits, finished, rows-length}
 
@@ -64,8 +63,8 @@ module _ {step : ℕ} {rs₀ ws₀ : List ℕ} {text₀ : Bytes} {rs ws : List �
   ready ts h k = record { there = m; name = h .names i m; room = omega (arith, m, l .heads-same, k) }
 
   -- what the step asks of the rule
-  pub rule-prepared : Passing step rs₀ ws₀ rs ws text os₀ o₀ s₀ → (root : ℕ) → root + 1 ≡ end + getD rs (i * 4 + 3) 0 → RulePrepared step rs₀ ws₀ ws text root p (bytesAt text (getD rs (i * 4) 0, getD rs (i * 4 + 1) 0)) o s
-  rule-prepared q root e =
+  pub rule-prepared : (marks : List ℕ) → Passing step rs₀ ws₀ text₀ marks rs ws text os₀ o₀ s₀ → (root : ℕ) → root + 1 ≡ end + getD rs (i * 4 + 3) 0 → RulePrepared step (getD rs (i * 4 + 2) 0) rs₀ ws₀ text₀ marks ws text root p (bytesAt text (getD rs (i * 4) 0, getD rs (i * 4 + 1) 0)) o s
+  rule-prepared marks q root e =
       let ts = q .table in
       let h = q .holds in
       let g = l .progress given ts lent h in
@@ -79,7 +78,7 @@ module _ {step : ℕ} {rs₀ ws₀ : List ℕ} {text₀ : Bytes} {rs ws : List �
             subst (λ (c : ℕ × ℕ). RuleFits p (bytesAt text c) (resolve text r) o s) (λ j. (sym (x .offset) j, sym (x .len) j))
             (subst (λ (b : Expr Span). RuleFits p (bytesAt text (n .0 .name)) (resolve text b) o s) (at-unique _ _ at a)
             (rule-fits-same {os′ = os₀} g (n .0) (n .1) (n .2) (λ y b. stepOf-less step k (resolveTable text₀ given) y b) (λ y b. stepOf-text step k (resolveTable text₀ given) y b) (record { rules = q .fits k .rules; rows = omega (arith, q .fits k .rows, l .out-same); text = omega (arith, q .fits k .text, l .lits-same) })));
-        counts = λ k r a. subst (λ (b : Expr Span). anyNode zeroCount b ≡ false) (at-unique _ _ at a) (no-zero ts (g .done) (n .0) (n .1) (g .whole ∙ ap (λ (y : Table Span). g .done ++ y) (n .2)) (q .counts k));
+        asks = λ r a. subst (λ (b : Expr Span). Asks step (getD rs (i * 4 + 2) 0) rs₀ ws₀ text₀ marks text b) (at-unique _ _ at a) (subst (λ (y : ℕ). Asks step y rs₀ ws₀ text₀ marks text (n .0 .body)) (sym (x .type)) (asks-part (g .done) (n .0) (n .1) (subst (AsksAll step rs₀ ws₀ text₀ marks text) (g .whole ∙ ap (λ (y : Table Span). g .done ++ y) (n .2)) (q .asks))));
       }
 
   -- the answer for the rule, in the rule's own terms

@@ -7,7 +7,10 @@ use lib.Dec.{eqb}
 use Rattle.grammar.specs.Basic.{Bytes}
 use Rattle.grammar.specs.Tree.{E, Expr}
 use Rattle.grammar.specs.Rows.{Span}
-use Rattle.grammar.specs.Table.{Table}
+use Rattle.grammar.specs.Text.{resolve}
+use Rattle.grammar.specs.Table.{Table, resolveTable}
+use Rattle.skipper.specs.Lends.{Given}
+use Rattle.skipper.specs.Skips.{Settles, Settling}
 use Rattle.grammar.specs.Steps.{rotate, unroll, concatenate, factor, list}
 use Rattle.grammar.proofs.Logic.{eqb-eq}
 use Rattle.rows.specs.Rows.{At, Stands}
@@ -16,14 +19,26 @@ use Rattle.writing.specs.Keeps.{Ready, KeptAnswer}
 use Rattle.writing.specs.declared.Place.{Place}
 use Rattle.writing.specs.declared.Wrote.{Wrote}
 use Rattle.unroller.specs.Items.{Counted}
-use Rattle.passes.specs.Passes.{stepOf, grows, Prepared, StepAnswer}
+use Rattle.passes.specs.Passes.{stepOf, grows, Lent, Asks, Prepared, StepAnswer}
 use Rattle.passes.proofs.Answers.{answer-step, kept-step}
 
-pub ready-for : {step : ℕ} (n : ℕ) {ws : List ℕ} {text : Bytes} {root : ℕ} {p : Place} {o t : List ℕ} → step ≡ n → grows n ≡ false → Stands ws root → Prepared step ws text root p o t → Ready ws text root p o t
-ready-for n h k s r = record { tree = s .tree; at = s .at; fits = r .fits (ap grows h ∙ k) (s .tree) (s .at) }
+module _ {step type : ℕ} {rs₀ ws₀ : List ℕ} {text₀ : Bytes} {marks ws : List ℕ} {text : Bytes} {root : ℕ} {p : Place} {o t : List ℕ} (s : Stands ws root) (r : Prepared step type rs₀ ws₀ text₀ marks ws text root p o t) where
+  pub ready-for : (n : ℕ) → step ≡ n → grows n ≡ false → Ready ws text root p o t
+  ready-for n h k = record { tree = s .tree; at = s .at; fits = r .fits (ap grows h ∙ k) (s .tree) (s .at) }
 
-pub counted-for : {step : ℕ} {ws : List ℕ} {text : Bytes} {root : ℕ} {p : Place} {o t : List ℕ} → step ≡ 3 → Stands ws root → Prepared step ws text root p o t → Counted ws root
-counted-for h s r = record { tree = s .tree; at = s .at; counts = r .counts h (s .tree) (s .at) }
+  pub counted-for : step ≡ 3 → Counted ws root
+  counted-for h = record { tree = s .tree; at = s .at; counts = r .asks (s .tree) (s .at) .counts h }
+
+  pub given-for : step ≡ 2 → Given rs₀ ws₀ text₀ marks
+  given-for h = r .asks (s .tree) (s .at) .given h
+
+  pub settling-for : step ≡ 2 → type ≡ 2 → Settling rs₀ ws₀ text₀ marks ws text root
+  settling-for h k =
+      let g = given-for h in
+      record { table = g .table; lent = g .lent; tree = s .tree; at = s .at; settles = r .asks (s .tree) (s .at) .settles h k (g .table) (record { rules = sym (g .lent .heads); rows = sym (g .lent .trees) }) }
+
+  pub settles-for : step ≡ 2 → (gs : Table Span) → Lent gs rs₀ ws₀ → (e : Expr Span) → At ws root e → type ≡ 2 → Settles (resolveTable text₀ gs) marks (resolve text e)
+  settles-for h gs l e a k = r .asks e a .settles h k gs l
 
 pub kept-by : (a : Wrote) (p : Place) {step : ℕ} (n : ℕ) (look : Table Bytes) (y : ℕ) (e x : E) (o o′ t t′ : List ℕ) → step ≡ n → stepOf n look y e ≡ x → KeptAnswer a p x o o′ t t′ → StepAnswer a p (stepOf step look y e) o o′ t t′
 kept-by a p n look y e x o o′ t t′ h q k = subst (λ (z : E). StepAnswer a p z o o′ t t′) (sym (ap (λ (m : ℕ). stepOf m look y e) h ∙ q)) (kept-step a p x o o′ t t′ k)
@@ -38,6 +53,6 @@ no-number n m h = go (eqb n m) refl
     go true e = absurd (h (eqb-eq n m e))
     go false e = e
 
-pub other-step : (n : ℕ) → (n ≡ 1 → ⊥) → (n ≡ 3 → ⊥) → (n ≡ 4 → ⊥) → (n ≡ 5 → ⊥) → (n ≡ 6 → ⊥) → (look : Table Bytes) (y : ℕ) (e : E) → stepOf n look y e ≡ e
+pub other-step : (n : ℕ) → (n ≡ 1 → ⊥) → (n ≡ 2 → ⊥) → (n ≡ 3 → ⊥) → (n ≡ 4 → ⊥) → (n ≡ 5 → ⊥) → (n ≡ 6 → ⊥) → (look : Table Bytes) (y : ℕ) (e : E) → stepOf n look y e ≡ e
 unfolding stepOf
-other-step n a b c d f look y e = rw (no-number n 1 a, no-number n 3 b, no-number n 4 c, no-number n 5 d, no-number n 6 f)
+other-step n a g b c d f look y e = rw (no-number n 1 a, no-number n 3 b, no-number n 4 c, no-number n 5 d, no-number n 6 f, no-number n 2 g)

@@ -1,7 +1,7 @@
 -- A step by its number, and what a pass over the rules of a table leaves in three areas. Assumes nothing.
 use mathlib.Core.Path.{_≡_}
 use mathlib.Core.Bool.{Bool, true, false, not, _||_, cond}
-use mathlib.Core.List.{List, _++_}
+use mathlib.Core.List.{List, [], _∷_, _++_}
 use Prim.Native.Nat.{ℕ, _+_, _*_, _/_, _^_, _≤_, _<_}
 use lib.ListN.{length, take, getD}
 use lib.Dec.{eqb}
@@ -11,8 +11,10 @@ use Rattle.grammar.specs.Rows.{Span, row, flat}
 use Rattle.grammar.specs.Text.{bytesAt, resolve, textOf, packed}
 use Rattle.grammar.specs.Table.{Table, Words, rowCount, ruleWords, rowWords, tableText, resolveTable, wordsOf}
 use Rattle.grammar.specs.Steps.{each, rotate, skipTo, unroll, concatenate, factor, list, restore}
-use Rattle.grammar.specs.Refusals.{zeroCount, zeroCounts}
+use Rattle.grammar.specs.Refusals.{zeroCount}
 use Rattle.rows.specs.Rows.{At, Inside}
+use Rattle.skipper.specs.Lends.{Given}
+use Rattle.skipper.specs.Skips.{Settles}
 use Rattle.writing.specs.Writes.{Fits, Areas, stored}
 use Rattle.writing.specs.Keeps.{Kept}
 use Rattle.writing.specs.declared.Place.{Place}
@@ -24,7 +26,7 @@ unfoldable pub stepOf : ℕ → (look : Table Bytes) → ℕ → E → E
 stepOf n look type e =
     cond (eqb n 1) (rotate e)
     (cond (eqb n 3) (unroll e)
-    (cond (eqb n 4) (concatenate type e) (cond (eqb n 5) (factor type e) (cond (eqb n 6) (list e) e))))
+    (cond (eqb n 4) (concatenate type e) (cond (eqb n 5) (factor type e) (cond (eqb n 6) (list e) (cond (eqb n 2) (skipTo look type e) e)))))
 
 -- rotate, concatenate, factor and list cannot grow
 abbrev pub grows : ℕ → Bool
@@ -40,10 +42,20 @@ pub record Lent (t : Table Span) (rs ws : List ℕ) : Type 0 where
   pub rules : ruleWords t ≡ rs
   pub rows : rowWords t ≡ ws
 
--- what a step asks besides the tree that it reads: one that cannot grow, that the tree fits; unroll, that no count is 0
-pub record Prepared (step : ℕ) (ws : List ℕ) (text : Bytes) (root : ℕ) (p : Place) (o t : List ℕ) : Type 0 where
+-- what a step asks of the tree r of a rule: unroll, that no count is 0; skip, that the marks settle the lists of the loops of an Atomic rule
+pub record Asks (step type : ℕ) (rs₀ ws₀ : List ℕ) (text₀ : Bytes) (marks : List ℕ) (text : Bytes) (r : Expr Span) : Type 0 where
+  pub counts : step ≡ 3 → anyNode zeroCount r ≡ false
+  pub given : step ≡ 2 → Given rs₀ ws₀ text₀ marks
+  pub settles : step ≡ 2 → type ≡ 2 → (gs : Table Span) → Lent gs rs₀ ws₀ → Settles (resolveTable text₀ gs) marks (resolve text r)
+
+abbrev pub AsksAll : (step : ℕ) (rs₀ ws₀ : List ℕ) (text₀ : Bytes) (marks : List ℕ) (text : Bytes) → Table Span → Type 0
+AsksAll step rs₀ ws₀ text₀ marks text [] = Unit {0}
+AsksAll step rs₀ ws₀ text₀ marks text (r ∷ t) = Asks step (r .type) rs₀ ws₀ text₀ marks text (r .body) × AsksAll step rs₀ ws₀ text₀ marks text t
+
+-- a step that cannot grow asks that the tree fits
+pub record Prepared (step type : ℕ) (rs₀ ws₀ : List ℕ) (text₀ : Bytes) (marks ws : List ℕ) (text : Bytes) (root : ℕ) (p : Place) (o t : List ℕ) : Type 0 where
   pub fits : grows step ≡ false → (r : Expr Span) → At ws root r → Fits p (resolve text r) o t
-  pub counts : step ≡ 3 → (r : Expr Span) → At ws root r → anyNode zeroCount r ≡ false
+  pub asks : (r : Expr Span) → At ws root r → Asks step type rs₀ ws₀ text₀ marks text r
 
 -- a name's bytes s at p
 pub record NamePut (q p : Place) (s t t′ : List ℕ) : Type 0 where
@@ -68,11 +80,11 @@ pub record RuleFits (p : Place) (s : Bytes) (e : E) (o t : List ℕ) : Type 0 wh
   pub text : p .text + length (s ++ textOf e) ≤ length t
 
 -- what a step asks of a rule with the name s
-pub record RulePrepared (step : ℕ) (rs₀ ws₀ ws : List ℕ) (text : Bytes) (root : ℕ) (p : Place) (s : Bytes) (o t : List ℕ) : Type 0 where
+pub record RulePrepared (step type : ℕ) (rs₀ ws₀ : List ℕ) (text₀ : Bytes) (marks ws : List ℕ) (text : Bytes) (root : ℕ) (p : Place) (s : Bytes) (o t : List ℕ) : Type 0 where
   pub table : Table Span
   pub lent : Lent table rs₀ ws₀
   pub fits : grows step ≡ false → (r : Expr Span) → At ws root r → RuleFits p s (resolve text r) o t
-  pub counts : step ≡ 3 → (r : Expr Span) → At ws root r → anyNode zeroCount r ≡ false
+  pub asks : (r : Expr Span) → At ws root r → Asks step type rs₀ ws₀ text₀ marks text r
 
 -- the rule's name and its packed tree stand from p to q, and its words at rule i; past that the areas of rows and text hold anything
 pub record RuleKept (q p : Place) (i y : ℕ) (s : Bytes) (e : E) (os os′ o o′ t t′ : List ℕ) : Type 0 where
@@ -100,13 +112,13 @@ pub record TableFits (t : Table Bytes) (os o s : List ℕ) : Type 0 where
   pub text : length (tableText t) ≤ length s
 
 -- a pass: the table that the step looks into, the table that it reads, and what it asks of that
-pub record Passing (step : ℕ) (rs₀ ws₀ rs ws : List ℕ) (text : Bytes) (os o s : List ℕ) : Type 0 where
+pub record Passing (step : ℕ) (rs₀ ws₀ : List ℕ) (text₀ : Bytes) (marks rs ws : List ℕ) (text : Bytes) (os o s : List ℕ) : Type 0 where
   pub given : Table Span
   pub lent : Lent given rs₀ ws₀
   pub table : Table Span
   pub holds : Holds table rs ws text
   pub fits : grows step ≡ false → TableFits (resolveTable text table) os o s
-  pub counts : step ≡ 3 → zeroCounts table ≡ false
+  pub asks : AsksAll step rs₀ ws₀ text₀ marks text table
 
 -- the packed table t stands at the front of three areas, up to q
 pub record Front (q : Place) (t : Table Bytes) (os o s : List ℕ) : Type 0 where

@@ -33,11 +33,24 @@ pub fn walk(
     requires { ⌜ Inside (now rows) (length (now text)) ⌝ }
     requires { ⌜ Stands (now rows) root ⌝ }
     requires { ⌜ Room p (now out) (now lits) ⌝ }
-    requires { ⌜ Prepared step (now rows) (now text) root p (now out) (now lits) ⌝ }
+    requires { ⌜ Prepared step kind (now heads0) (now rows0) (now text0) (now marks) (now rows) (now text) root p (now out) (now lits) ⌝ }
     ensures { λ a. ⌜ ((gs : Table Span) (r : Expr Span) → Lent gs (now (heads0 .entry)) (now (rows0 .entry)) → At (now (rows .entry)) root r → StepAnswer a p (stepOf step (resolveTable (now (text0 .entry)) gs) kind (resolve (now (text .entry)) r)) (now (out .entry)) (now (out .exit)) (now (lits .entry)) (now (lits .exit))) ⌝ }
 {
     match step {
         1 => rotator::rotate(rows, text, root, out, lits, p),
+        2 => skipper::skip(
+            heads0,
+            rows0,
+            text0,
+            marks,
+            rows,
+            text,
+            root,
+            kind,
+            out,
+            lits,
+            p,
+        ),
         3 => unroller::unroll(rows, text, root, out, lits, p),
         4 => concatenator::concatenate(rows, text, root, kind, out, lits, p),
         5 => factorizer::factor(rows, text, root, kind, out, lits, p),
@@ -91,7 +104,7 @@ pub fn one_rule(
     requires { ⌜ Stands (now rows) root ⌝ }
     requires { ⌜ Room p (now out) (now lits) ⌝ }
     requires { ⌜ RuleReady (now rules) i (length (now text)) (now heads) ⌝ }
-    requires { ⌜ RulePrepared step (now heads0) (now rows0) (now rows) (now text) root p (bytesAt (now text) (getD (now rules) (i * 4) 0, getD (now rules) (i * 4 + 1) 0)) (now out) (now lits) ⌝ }
+    requires { ⌜ RulePrepared step (getD (now rules) (i * 4 + 2) 0) (now heads0) (now rows0) (now text0) (now marks) (now rows) (now text) root p (bytesAt (now text) (getD (now rules) (i * 4) 0, getD (now rules) (i * 4 + 1) 0)) (now out) (now lits) ⌝ }
     ensures { λ a. ⌜ ((gs : Table Span) (r : Expr Span) → Lent gs (now (heads0 .entry)) (now (rows0 .entry)) → At (now (rows .entry)) root r → RuleAnswer a p i (getD (now (rules .entry)) (i * 4 + 2) 0) (bytesAt (now (text .entry)) (getD (now (rules .entry)) (i * 4) 0, getD (now (rules .entry)) (i * 4 + 1) 0)) (stepOf step (resolveTable (now (text0 .entry)) gs) (getD (now (rules .entry)) (i * 4 + 2) 0) (resolve (now (text .entry)) r)) (now (heads .entry)) (now (heads .exit)) (now (out .entry)) (now (out .exit)) (now (lits .entry)) (now (lits .exit))) ⌝ }
 {
     let at = i * 4;
@@ -136,7 +149,7 @@ pub fn pass(
     out: &mut [u32],
     lits: &mut [u8],
 ) -> Wrote
-    requires { ⌜ Passing step (now heads0) (now rows0) (now rules) (now rows) (now text) (now heads) (now out) (now lits) ⌝ }
+    requires { ⌜ Passing step (now heads0) (now rows0) (now text0) (now marks) (now rules) (now rows) (now text) (now heads) (now out) (now lits) ⌝ }
     requires { ⌜ length (now rules) ≤ length (now heads) ⌝ }
     requires { ⌜ Areas (now out) (now lits) ⌝ }
     ensures { λ a. ⌜ ((gs ts : Table Span) → Lent gs (now (heads0 .entry)) (now (rows0 .entry)) → Holds ts (now (rules .entry)) (now (rows .entry)) (now (text .entry)) → PassAnswer a (each (stepOf step (resolveTable (now (text0 .entry)) gs)) (resolveTable (now (text .entry)) ts)) (now (heads .entry)) (now (out .entry)) (now (lits .entry)) (now (heads .exit)) (now (out .exit)) (now (lits .exit))) ⌝ }

@@ -72,7 +72,7 @@ one-rule-requires c κs =
     let m : c .before .before .before .before .before .before .loop .i < length (s .args .rules .now) / 4 = omega arith in
     let q = s .pre .0 in
     let h = here l m (q .given) (q .lent) (q .table) (q .holds) in
-    (q .holds .inside, (record { tree = h .rule .body; at = h .next .at _ (omega (arith, h .next .count, size-pos (h .rule .body), c .before .before .before .wide .ensures)) }, (l .room, (ready l m (q .given) (q .lent) (q .table) (q .holds) (s .pre .1 .0), rule-prepared l m (q .given) (q .lent) q _ (omega (arith, h .next .count, size-pos (h .rule .body), c .before .before .before .wide .ensures))))))
+    (q .holds .inside, (record { tree = h .rule .body; at = h .next .at _ (omega (arith, h .next .count, size-pos (h .rule .body), c .before .before .before .wide .ensures)) }, (l .room, (ready l m (q .given) (q .lent) (q .table) (q .holds) (s .pre .1 .0), rule-prepared l m (q .given) (q .lent) _ q _ (omega (arith, h .next .count, size-pos (h .rule .body), c .before .before .before .wide .ensures))))))
 
 -- src/lib.rt:144:25
 enum-known-q : tie.Need-enum-known-q Inv-loop μ-loop
