@@ -28,7 +28,7 @@ pub fn turn(
     rows2: &mut [u32],
     text2: &mut [u8],
 ) -> Wrote
-    requires { ⌜ Turning step (now heads0) (now rows0) count p (now heads) (now rows) (now text) (now heads2) (now rows2) (now text2) ⌝ }
+    requires { ⌜ Turning step (now heads0) (now rows0) (now text0) (now marks) count p (now heads) (now rows) (now text) (now heads2) (now rows2) (now text2) ⌝ }
     requires { ⌜ Areas (now rows2) (now text2) ⌝ }
     ensures { λ a. ⌜ ((gs : Table Span) (t : Table Bytes) → Lent gs (now (heads0 .entry)) (now (rows0 .entry)) → Front p t (now (heads .entry)) (now (rows .entry)) (now (text .entry)) → count ≡ length t * 4 → PassAnswer a (each (stepOf step (resolveTable (now (text0 .entry)) gs)) t) (now (heads2 .entry)) (now (rows2 .entry)) (now (text2 .entry)) (now (heads2 .exit)) (now (rows2 .exit)) (now (text2 .exit))) ⌝ }
 {
