@@ -21,7 +21,7 @@ use Rattle.writing.specs.declared.Place.{Place}
 use Rattle.writing.specs.declared.Wrote.{Wrote}
 use Rattle.writing.specs.declared.Wrote.the-variants.{Done, Full}
 
--- steps 1 to 7. Skip reads its lists in the table as given, restore looks into the table that it is put on: that is `look`
+-- steps 1 to 6, and for any other number nothing is changed. Skip reads its lists in the table as given, `look`
 unfoldable pub stepOf : ℕ → (look : Table Bytes) → ℕ → E → E
 stepOf n look type e =
     cond (eqb n 1) (rotate e)
