@@ -1,0 +1,197 @@
+-- A restored tree is written by its children and then its root's row. Assumes nothing.
+use mathlib.Core.Path.{_≡_, refl, sym, ap, ap₂, _∙_, subst}
+use mathlib.Core.Bool.{Bool, true, false, _||_}
+use mathlib.Core.List.{List}
+use Prim.Native.Nat.{ℕ, _+_, _-_, _*_, _/_, _≤_, _<_}
+use native.Mathlib.Omega.{arith}
+use lib.ListN.{length}
+use Rattle.grammar.specs.Basic.{Bytes, member}
+use Rattle.grammar.specs.Tree.{Head, Lit, Ident, Un, RestoreOnErr, Bin, Expr, E, lit, un, bin, litKind, unHead, binKind, size}
+use Rattle.grammar.specs.Rows.{Span}
+use Rattle.grammar.specs.Text.{bytesAt, resolve}
+use Rattle.grammar.specs.Table.{Table}
+use Rattle.grammar.specs.Stack.{stackNames, changes}
+use Rattle.grammar.specs.Steps.{restore}
+use Rattle.rows.specs.Rows.{At, sizeAt, shapeOf}
+use Rattle.rows.specs.declared.Shape.the-variants.{Lit as Lits, Num, One, Two, Skips}
+use Rattle.rows.proofs.Laws.{Found, root, found-size}
+use Rattle.rows.proofs.Cells.{lit-same}
+use Rattle.rows.proofs.Views.{OneView, TwoView, as-lit, as-num, as-one, as-two, as-skip, left-at}
+use Rattle.writing.specs.Writes.{Areas, RowPut, RowAnswer, LitAnswer, Fits, Written, Answer}
+use Rattle.writing.specs.declared.Place.{Place}
+use Rattle.writing.specs.declared.Wrote.{Wrote}
+use Rattle.writing.specs.declared.Wrote.the-variants.{Done, Full as NoRoom}
+use Rattle.writing.proofs.Puts.{row-done, row-full}
+use Rattle.writing.proofs.Trees.{lit-tree, un-tree, bin-tree, done-written, full-not, fits-un, fits-left, fits-right, written-room}
+use Rattle.names.specs.Names.{Finds}
+use Rattle.names.specs.declared.Found.{Found as Found′}
+use Rattle.names.specs.declared.Found.the-variants.{At as Sited, Nothing}
+use Rattle.restorer.specs.Restores.{isGuard, guardedIf, showsThrough, saysFound, Sure, RowIs, Shown, RestoredAnswer, Over, NodePut, NodeAnswer}
+use Rattle.restorer.specs.declared.Restored.{Restored}
+use Rattle.restorer.specs.declared.Restored.the-variants.{To, Full}
+use Rattle.restorer.proofs.Memories.{or-no-left}
+use Rattle.restorer.proofs.Showing.{changes-un, changes-bin, changes-lit, changes-fixed, changes-skip, restore-lit, restore-fixed, restore-skip, restore-un, restore-bin, guarded-yes, guarded-no, guarded-not}
+
+-- ---- an answer that is known
+
+pub shown-of : {a : Restored} {q : Place} {b : Bool} (p : Place) (t : Table Bytes) (e : E) (o o′ l l′ : List ℕ) → a ≡ To q b → RestoredAnswer a p t e o o′ l l′ → Shown q p b t e o o′ l l′
+shown-of p t e o o′ l l′ h w = subst (λ (z : Restored). RestoredAnswer z p t e o o′ l l′) h w
+
+pub no-room : {a : Restored} (p : Place) (t : Table Bytes) (e : E) (o o′ l l′ : List ℕ) → a ≡ Full → RestoredAnswer a p t e o o′ l l′ → Fits p e o l → ⊥
+no-room p t e o o′ l l′ h w = subst (λ (z : Restored). RestoredAnswer z p t e o o′ l l′) h w
+
+pub over-of : {q p : Place} {b : Bool} {t : Table Bytes} {e : E} {o o′ l l′ : List ℕ} → Shown q p b t e o o′ l l′ → Areas o l → Over p q o′
+over-of w a = let r = written-room (w .written) a in record { low = omega (arith, w .written .rows); high = r .rows; words = r .areas .words }
+
+-- a row that is put over what stands from p to q
+pub node-put : {a : Wrote} {s : Place} {c : Bool} (p q : Place) (h : Head) (n : ℕ) (b : Bool) (o o′ : List ℕ) → a ≡ Done s → RowAnswer a q h n o o′ → n ≡ q .rows - p .rows + 1 → c ≡ showsThrough (h .0) b → NodePut s p q c h b o o′
+node-put {a} {s} {c} p q h n b o o′ d r e f = record { row = subst (λ (m : ℕ). RowPut s q h m o o′) e (row-done q h n o o′ d r); shows = f }
+
+-- ---- a node over what was written
+
+module _ {q p : Place} {b : Bool} {t : Table Bytes} {e : E} {o o₁ l l₁ : List ℕ} (w : Shown q p b t e o o₁ l l₁) where
+  node-un : (a : Restored) (u : Un) (h : Head) (o₂ : List ℕ) → h ≡ unHead u → NodeAnswer a p q h b o₁ o₂ → RestoredAnswer a p t (un u e) o o₂ l l₁
+  node-un (To s c) u h o₂ d n =
+      record {
+        written = un-tree (w .written) (Done s) u h (q .rows - p .rows + 1) o₂ d (omega (arith, w .written .rows)) (n .row);
+        shows = n .shows ∙ ap₂ showsThrough (ap (λ (g : Head). g .0) d) (w .shows) ∙ sym (changes-un t u e);
+      }
+  node-un Full u h o₂ d n = un-tree (w .written) NoRoom u h (q .rows - p .rows + 1) o₂ d (omega (arith, w .written .rows)) n
+
+  -- under a RestoreOnErr, or as it is
+  pub child-guarded : (a : Restored) (g : Bool) (o₂ : List ℕ) → g ≡ true → b ≡ true → NodeAnswer a p q (19, 0, 0) b o₁ o₂ → RestoredAnswer a p t (guardedIf t g e) o o₂ l l₁
+  child-guarded a g o₂ h k n = rw (guarded-yes t g e h (sym (w .shows) ∙ k)) (node-un a RestoreOnErr (19, 0, 0) o₂ refl n)
+
+  pub child-quiet : (g : Bool) → g ≡ true → b ≡ false → Shown q p b t (guardedIf t g e) o o₁ l l₁
+  child-quiet g h k = rw (guarded-no t g e h (sym (w .shows) ∙ k)) w
+
+  pub child-plain : (g : Bool) → g ≡ false → Shown q p b t (guardedIf t g e) o o₁ l l₁
+  child-plain g h = rw (guarded-not t g e h) w
+
+  module _ {s : Place} {c : Bool} {f : E} {o₂ l₂ : List ℕ} (v : Shown s q c t f o₁ o₂ l₁ l₂) where
+    node-bin : (a : Restored) (k : Bin) (h : Head) (x : Bool) (o₃ : List ℕ) → h ≡ (binKind k, 0, 0) → x ≡ (b || c) → NodeAnswer a p s h x o₂ o₃ → RestoredAnswer a p t (bin k e f) o o₃ l l₂
+    node-bin (To z y) k h x o₃ d i n =
+        record {
+          written = bin-tree (w .written) (v .written) (Done z) k h (s .rows - p .rows + 1) o₃ d (omega (arith, w .written .rows, v .written .rows)) (n .row);
+          shows = n .shows ∙ ap₂ showsThrough (ap (λ (g : Head). g .0) d) (i ∙ ap₂ _||_ (w .shows) (v .shows)) ∙ sym (changes-bin t k e f);
+        }
+    node-bin Full k h x o₃ d i n = bin-tree (w .written) (v .written) NoRoom k h (s .rows - p .rows + 1) o₃ d (omega (arith, w .written .rows, v .written .rows)) n
+
+-- ---- by the row that was read
+
+pub row-is : {w : List ℕ} {i k x y : ℕ} {r : Expr Span} → RowIs w i k x y → At w i r → Found w i k x y (sizeAt w i)
+row-is f a = record { within = root a .inside; kind = f .kind; x = f .first; y = f .second; rows = refl }
+
+pub is-row : {w : List ℕ} {i k x y n : ℕ} → Found w i k x y n → RowIs w i k x y
+is-row f = record { kind = f .kind; first = f .x; second = f .y }
+
+-- one child
+module _ {w : List ℕ} {i k x y : ℕ} {r : Expr Span} (f : RowIs w i k x y) (sh : shapeOf k ≡ One) (a : At w i r) where
+  abbrev pub one-view : OneView w i k x y (sizeAt w i) r
+  one-view = as-one (row-is f a) a sh
+
+  module _ (s : Bytes) (t : Table Bytes) (g : Bool) (h : g ≡ isGuard k) where
+    one-is : restore t (resolve s r) ≡ un (one-view .op) (guardedIf t g (restore t (resolve s (one-view .child))))
+    one-is =
+        let v = one-view in
+        let e : g ≡ isGuard (unHead (v .op) .0) = h ∙ ap (λ (z : Head). isGuard (z .0)) (v .head) in
+        ap (λ (z : Expr Span). restore t (resolve s z)) (v .is) ∙ restore-un t (v .op) (resolve s (v .child)) ∙ ap (λ (z : Bool). un (v .op) (guardedIf t z (restore t (resolve s (v .child))))) (sym e)
+
+    pub one-full : {p : Place} {o l : List ℕ} → (Fits p (guardedIf t g (restore t (resolve s (one-view .child)))) o l → ⊥) → Fits p (restore t (resolve s r)) o l → ⊥
+    one-full {p} {o} {l} n z = n (fits-un (subst (λ (e : E). Fits p e o l) one-is z))
+
+    pub one-done : {q p : Place} {b : Bool} {o o₁ l l₁ : List ℕ} (c : Restored) (o₂ : List ℕ) → Shown q p b t (guardedIf t g (restore t (resolve s (one-view .child)))) o o₁ l l₁ → NodeAnswer c p q (k, x, y) b o₁ o₂ → RestoredAnswer c p t (restore t (resolve s r)) o o₂ l l₁
+    one-done c o₂ z n = rw one-is (node-un z c (one-view .op) (k, x, y) o₂ (one-view .head) n)
+
+-- two children
+module _ {w : List ℕ} {i k : ℕ} {r : Expr Span} (f : RowIs w i k 0 0) (sh : shapeOf k ≡ Two) (a : At w i r) where
+  abbrev pub two-view : TwoView w i k 0 0 (sizeAt w i) r
+  two-view = as-two (row-is f a) a sh
+
+  -- the left child by the size word of the right one
+  pub two-left : {k′ x′ y′ n′ m : ℕ} → Found w (i - 1) k′ x′ y′ n′ → m ≡ n′ → At w (i - 1 - m) (two-view .left)
+  two-left {m = m} g c = left-at two-view m (c ∙ found-size g (two-view .atRight))
+
+  module _ (s : Bytes) (t : Table Bytes) (g : Bool) (h : g ≡ isGuard k) where
+    abbrev pub two-l : E
+    two-l = guardedIf t g (restore t (resolve s (two-view .left)))
+
+    abbrev pub two-r : E
+    two-r = guardedIf t g (restore t (resolve s (two-view .right)))
+
+    two-is : restore t (resolve s r) ≡ bin (two-view .op) two-l two-r
+    two-is =
+        let v = two-view in
+        let e : g ≡ isGuard (binKind (v .op)) = h ∙ ap isGuard (v .kind) in
+        ap (λ (z : Expr Span). restore t (resolve s z)) (v .is) ∙ restore-bin t (v .op) (resolve s (v .left)) (resolve s (v .right)) ∙ ap (λ (z : Bool). bin (v .op) (guardedIf t z (restore t (resolve s (v .left)))) (guardedIf t z (restore t (resolve s (v .right))))) (sym e)
+
+    pub left-full : {p : Place} {o l : List ℕ} → (Fits p two-l o l → ⊥) → Fits p (restore t (resolve s r)) o l → ⊥
+    left-full {p} {o} {l} n z = n (fits-left (subst (λ (e : E). Fits p e o l) two-is z))
+
+    module _ {q p : Place} {b : Bool} {o o₁ l l₁ : List ℕ} (u : Shown q p b t two-l o o₁ l l₁) where
+      pub right-full : (Fits q two-r o₁ l₁ → ⊥) → Fits p (restore t (resolve s r)) o l → ⊥
+      right-full n z = n (fits-right (u .written) (subst (λ (e : E). Fits p e o l) two-is z))
+
+      pub two-done : {z : Place} {c x : Bool} {o₂ l₂ : List ℕ} (y : Restored) (o₃ : List ℕ) → Shown z q c t two-r o₁ o₂ l₁ l₂ → x ≡ (b || c) → NodeAnswer y p z (k, 0, 0) x o₂ o₃ → RestoredAnswer y p t (restore t (resolve s r)) o o₃ l l₂
+      two-done {x = x} y o₃ v e n = rw two-is (node-bin u v y (two-view .op) (k, 0, 0) x o₃ (two-view .head) e n)
+
+-- no child
+module _ {w : List ℕ} {i k x y n : ℕ} {r : Expr Span} (f : Found w i k x y n) (a : At w i r) (s : Bytes) (t : Table Bytes) where
+  pub lit-restored : (c : Restored) (p : Place) (o o′ l l′ : List ℕ) → shapeOf k ≡ Lits → ((j : Lit) → k ≡ litKind j → RestoredAnswer c p t (lit j (bytesAt s (x, y))) o o′ l l′) → RestoredAnswer c p t (restore t (resolve s r)) o o′ l l′
+  lit-restored c p o o′ l l′ sh h =
+      let v = as-lit f a sh in
+      let e : restore t (resolve s r) ≡ lit (v .op) (bytesAt s (x, y)) = ap (λ (z : Expr Span). restore t (resolve s z)) (v .is) ∙ restore-lit t (v .op) (bytesAt s (x, y)) in
+      rw e (h (v .op) (v .kind))
+
+  plain-restored : (c : Restored) (p : Place) (o o′ l l′ : List ℕ) → restore t (resolve s r) ≡ resolve s r → changes t (resolve s r) ≡ false → (changes t (resolve s r) ≡ false → RestoredAnswer c p t (resolve s r) o o′ l l′) → RestoredAnswer c p t (restore t (resolve s r)) o o′ l l′
+  plain-restored c p o o′ l l′ e q h = rw e (h q)
+
+  pub num-restored : (c : Restored) (p : Place) (o o′ l l′ : List ℕ) → shapeOf k ≡ Num → (changes t (resolve s r) ≡ false → RestoredAnswer c p t (resolve s r) o o′ l l′) → RestoredAnswer c p t (restore t (resolve s r)) o o′ l l′
+  num-restored c p o o′ l l′ sh h =
+      let v = as-num f a sh in
+      plain-restored c p o o′ l l′ (rw (v .is) (restore-fixed t (v .op))) (rw (v .is) (changes-fixed t (v .op))) h
+
+  pub skip-restored : (c : Restored) (p : Place) (o o′ l l′ : List ℕ) → shapeOf k ≡ Skips → (changes t (resolve s r) ≡ false → RestoredAnswer c p t (resolve s r) o o′ l l′) → RestoredAnswer c p t (restore t (resolve s r)) o o′ l l′
+  skip-restored c p o o′ l l′ sh h =
+      let v = as-skip f a sh in
+      plain-restored c p o o′ l l′ (rw (v .is) (restore-skip t _)) (rw (v .is) (changes-skip t _)) h
+
+-- ---- literals and names
+
+module _ (a : Wrote) (p : Place) (k : ℕ) (j : Lit) (s : Bytes) {x y x′ y′ : ℕ} (o o′ l l′ : List ℕ) (d : x ≡ x′) (e : y ≡ y′) (h : k ≡ litKind j) (w : LitAnswer a p k (bytesAt s (x, y)) o o′ l l′) where
+  lit-answer : Answer a p (lit j (bytesAt s (x′, y′))) o o′ l l′
+  lit-answer = lit-tree a p j (bytesAt s (x′, y′)) o o′ l l′ (rw (d, e, h) at w)
+
+  pub lit-full : a ≡ NoRoom → Fits p (lit j (bytesAt s (x′, y′))) o l → ⊥
+  lit-full q = full-not p (lit j (bytesAt s (x′, y′))) o o′ l l′ q lit-answer
+
+  module _ {q : Place} (n : a ≡ Done q) (t : Table Bytes) where
+    lit-written : Written q p (lit j (bytesAt s (x′, y′))) o o′ l l′
+    lit-written = done-written p (lit j (bytesAt s (x′, y′))) o o′ l l′ n lit-answer
+
+    pub lit-plain : (k ≡ 3 → ⊥) → Shown q p false t (lit j (bytesAt s (x′, y′))) o o′ l l′
+    lit-plain z = record { written = lit-written; shows = sym (changes-lit t j (bytesAt s (x′, y′)) (λ i. z (h ∙ i))) }
+
+    pub lit-name : (b : Bool) → k ≡ 3 → b ≡ changes t (lit Ident (bytesAt s (x, y))) → Shown q p b t (lit j (bytesAt s (x′, y′))) o o′ l l′
+    lit-name b z i =
+        let g : Ident ≡ j = lit-same Ident j (sym z ∙ h) in
+        record { written = lit-written; shows = i ∙ ap₂ (λ (u v : ℕ). changes t (lit Ident (bytesAt s (u, v)))) d e ∙ ap (λ (u : Lit). changes t (lit u (bytesAt s (x′, y′)))) g }
+
+module _ (t : Table Bytes) (rules : List ℕ) (text : Bytes) (m : List ℕ) (su : Sure t rules text m) (key : Bytes) (c : Bool) (f : Found′) (n : c ≡ member key stackNames) (no : c ≡ false) (h : Finds (length rules / 4) rules text key f) where
+  pub name-shows : {f′ : Found′} → f ≡ f′ → saysFound m f′ ≡ changes t (lit Ident key)
+  name-shows {f′} e =
+      let g : Finds (length rules / 4) rules text key f′ = subst (λ (z : Found′). Finds (length rules / 4) rules text key z) e h in
+      let z : member key stackNames ≡ false = sym n ∙ no in
+      sym (su .name key f′ g ∙ ap (λ (b : Bool). b || saysFound m f′) z)
+
+-- a copy of which nothing shows
+module _ {a : Wrote} (p : Place) (t : Table Bytes) (e : E) (o o′ l l′ : List ℕ) (w : Answer a p e o o′ l l′) where
+  pub copy-full : a ≡ NoRoom → Fits p e o l → ⊥
+  copy-full h = full-not p e o o′ l l′ h w
+
+  pub copy-plain : {q : Place} → changes t e ≡ false → a ≡ Done q → Shown q p false t e o o′ l l′
+  copy-plain z h = record { written = done-written p e o o′ l l′ h w; shows = sym z }
+
+-- what the walk says without what shows
+pub wrote-done : {a : Restored} {q : Place} {b : Bool} (p : Place) (t : Table Bytes) (e : E) (o o′ l l′ : List ℕ) → a ≡ To q b → RestoredAnswer a p t e o o′ l l′ → Written q p e o o′ l l′
+wrote-done p t e o o′ l l′ h w = shown-of p t e o o′ l l′ h w .written

@@ -1,0 +1,176 @@
+-- The visit of a row: a row that is no Ident by its kind, an Ident by its name and its rule. Assumes nothing.
+use mathlib.Core.Path.{_≡_, refl, sym, ap, _∙_, subst}
+use mathlib.Core.Bool.{Bool, true, false, _||_, not}
+use mathlib.Core.List.{List, [], _∷_}
+use mathlib.Core.Option.{some}
+use Prim.Native.Nat.{ℕ, _+_, _-_, _*_, _/_, _≤_, _<_}
+use native.Mathlib.Omega.{arith}
+use lib.ListN.{length, getElem?}
+use Rattle.grammar.specs.Basic.{Bytes, member}
+use Rattle.grammar.specs.Tree.{Lit, Str, Insens, Ident, Fixed, Range, PeekSlice, PeekFrom, Un, PosPred, NegPred, Opt, Rep, RepOnce, Push, RestoreOnErr, RepExact, RepMin, RepMax, RepMinMax, Bin, Seq, Choice, Expr, lit, fixed, skip, un, bin, litKind, fixedHead, unHead, binKind, size}
+use Rattle.grammar.specs.Rows.{Span}
+use Rattle.grammar.specs.Text.{bytesAt, resolve}
+use Rattle.grammar.specs.Table.{Table, resolveRule, resolveTable}
+use Rattle.grammar.specs.Stack.{stackNames, at-push, at-name, through}
+use Rattle.rows.specs.Rows.{At}
+use Rattle.rows.proofs.Laws.{headOf, Found, root, found-size, at-un, at-left, at-right, size-pos}
+use Rattle.rows.proofs.Cells.{lit-shape}
+use Rattle.rows.proofs.Views.{as-lit, lit-is}
+use Rattle.names.specs.Names.{nameOf, First, Finds}
+use Rattle.names.specs.declared.Found.{Found as Found′}
+use Rattle.names.specs.declared.Found.the-variants.{At as Sited, Nothing}
+use Rattle.names.proofs.Finding.{Looked, looked, not-found, name-is}
+use Rattle.restorer.specs.Search.{stateOf, memoryOf, isQuiet, loud, Right, Searches, Looks}
+use Rattle.restorer.specs.Lends.{Lent}
+use Rattle.restorer.specs.Walks.{Run, below, changesAt, stepFrom, Changing, Passing, Visited, GoesOn}
+use Rattle.restorer.specs.declared.Step.{Step}
+use Rattle.restorer.specs.declared.Step.the-variants.{Changes, Next}
+use Rattle.restorer.proofs.Memories.{or-no, quiet-at, memory-none, memory-first, rule-resolved, searches-none, closed-none}
+
+-- ---- a row that is no Ident
+
+un-goes : (w : List ℕ) (i : ℕ) (u : Un) (e : Expr Span) → size e ≤ i → 1 ≤ i → At w (i - 1) e → GoesOn (stepFrom (unHead u .0) i (size e + 1)) w i (un u e)
+unfolding stepFrom
+un-goes w i PosPred e h l a = (omega arith, (l, (a, omega arith)))
+un-goes w i NegPred e h l a = (omega arith, (l, (a, omega arith)))
+un-goes w i Opt e h l a = (omega arith, (l, (a, omega arith)))
+un-goes w i Rep e h l a = (omega arith, (l, (a, omega arith)))
+un-goes w i RepOnce e h l a = (omega arith, (l, (a, omega arith)))
+un-goes w i (RepExact n) e h l a = (omega arith, (l, (a, omega arith)))
+un-goes w i (RepMin n) e h l a = (omega arith, (l, (a, omega arith)))
+un-goes w i (RepMax n) e h l a = (omega arith, (l, (a, omega arith)))
+un-goes w i (RepMinMax n k) e h l a = (omega arith, (l, (a, omega arith)))
+un-goes w i Push e h l a = tt
+un-goes w i RestoreOnErr e h l a = (omega arith, refl)
+
+bin-run : (w : List ℕ) (i : ℕ) (b : Bin) (e f : Expr Span) → At w i (bin b e f) → (i ≤ i) × Run w (i + 1 - (size e + size f + 1)) i (f ∷ e ∷ [])
+bin-run w i b e f a =
+    let t = root a .most in
+    let x = size-pos e in
+    let y = size-pos f in
+    let n : i - 1 - size f ≡ i - size f - 1 = omega arith in
+    (omega arith, (omega arith, (at-right a, (omega arith, (rw n at (at-left a), omega arith)))))
+
+goes-on : (w : List ℕ) (i : ℕ) (r : Expr Span) → At w i r → (headOf r .0 ≡ 3 → ⊥) → GoesOn (stepFrom (headOf r .0) i (size r)) w i r
+unfolding stepFrom
+goes-on w i (lit Str p) a n = (omega arith, omega arith)
+goes-on w i (lit Insens p) a n = (omega arith, omega arith)
+goes-on w i (lit Ident p) a n = absurd (n refl)
+goes-on w i (fixed (Range x y)) a n = (omega arith, omega arith)
+goes-on w i (fixed (PeekSlice x y)) a n = (omega arith, omega arith)
+goes-on w i (fixed (PeekFrom x)) a n = (omega arith, omega arith)
+goes-on w i (skip ss) a n = (omega arith, refl)
+goes-on w i (un u e) a n = let t = root a .most in let x = size-pos e in un-goes w i u e (omega arith) (omega arith) (at-un a)
+goes-on w i (bin Seq e f) a n = bin-run w i Seq e f a
+goes-on w i (bin Choice e f) a n = bin-run w i Choice e f a
+
+module _ (s : Bytes) (t : Table Bytes) (m : List ℕ) (h : Right t m) where
+  passes : (r : Expr Span) → changesAt (loud t m) (resolve s r) ≡ false → Passing s t m m r
+  passes r e = record { searches = searches-none h; closed = closed-none t m; quiet = e }
+
+  un-visits : (i : ℕ) (u : Un) (e : Expr Span) → Visited (stepFrom (unHead u .0) i (size e + 1)) s t m m (un u e)
+  unfolding stepFrom
+  un-visits i PosPred e = passes (un PosPred e) refl
+  un-visits i NegPred e = passes (un NegPred e) refl
+  un-visits i Opt e = passes (un Opt e) refl
+  un-visits i Rep e = passes (un Rep e) refl
+  un-visits i RepOnce e = passes (un RepOnce e) refl
+  un-visits i (RepExact n) e = passes (un (RepExact n) e) refl
+  un-visits i (RepMin n) e = passes (un (RepMin n) e) refl
+  un-visits i (RepMax n) e = passes (un (RepMax n) e) refl
+  un-visits i (RepMinMax n k) e = passes (un (RepMinMax n k) e) refl
+  un-visits i Push e = record { searches = searches-none h; reaches = at-push }
+  un-visits i RestoreOnErr e = passes (un RestoreOnErr e) refl
+
+  visits : (i : ℕ) (r : Expr Span) → (headOf r .0 ≡ 3 → ⊥) → Visited (stepFrom (headOf r .0) i (size r)) s t m m r
+  unfolding stepFrom
+  visits i (lit Str p) n = passes (lit Str p) refl
+  visits i (lit Insens p) n = passes (lit Insens p) refl
+  visits i (lit Ident p) n = absurd (n refl)
+  visits i (fixed (Range x y)) n = passes (fixed (Range x y)) refl
+  visits i (fixed (PeekSlice x y)) n = passes (fixed (PeekSlice x y)) refl
+  visits i (fixed (PeekFrom x)) n = passes (fixed (PeekFrom x)) refl
+  visits i (skip ss) n = passes (skip ss) refl
+  visits i (un u e) n = un-visits i u e
+  visits i (bin Seq e f) n = passes (bin Seq e f) refl
+  visits i (bin Choice e f) n = passes (bin Choice e f) refl
+
+-- the step from a row that was read
+module _ {w : List ℕ} {i k x y n v : ℕ} {a : Step} (f : Found w i k x y n) (z : k ≡ 3 → ⊥) (e : a ≡ stepFrom k i v) (g : v ≡ n) where
+  step-is : {r : Expr Span} → At w i r → a ≡ stepFrom (headOf r .0) i (size r)
+  step-is {r} b =
+      let p : k ≡ headOf r .0 = sym (f .kind) ∙ root b .kind in
+      let q : v ≡ size r = g ∙ found-size f b in
+      e ∙ rw (p, q)
+
+  not-ident : {r : Expr Span} → At w i r → headOf r .0 ≡ 3 → ⊥
+  not-ident b q = z (sym (f .kind) ∙ root b .kind ∙ q)
+
+  pub row-goes : (r : Expr Span) → At w i r → GoesOn a w i r
+  row-goes r b = rw (step-is b) (goes-on w i r b (not-ident b))
+
+  pub row-visited : (s : Bytes) (t : Table Bytes) (m : List ℕ) (r : Expr Span) → At w i r → Right t m → Visited a s t m m r
+  row-visited s t m r b h = rw (step-is b) (visits s t m h i r (not-ident b))
+
+-- ---- an Ident
+
+pub finds-below : {j : ℕ} (n : ℕ) (rules : List ℕ) (s key : Bytes) (found : Found′) → Finds n rules s key found → found ≡ Sited j → j < n
+finds-below {j} n rules s key found h e = let f : First n rules s key j = rw e at h in f .below
+
+module _ {w : List ℕ} {i k x y n : ℕ} (f : Found w i k x y n) (z : k ≡ 3) where
+  pub ident-is : (r : Expr Span) → At w i r → r ≡ lit Ident (x, y)
+  ident-is r b = lit-is Ident (as-lit f b (rw z (lit-shape Ident))) z
+
+  pub ident-goes : (r : Expr Span) → At w i r → (i ≤ i) × Run w (i + 1 - size r) i (below r)
+  ident-goes r b = rw (ident-is r b) (omega arith, omega arith)
+
+  -- a name that changes the stack
+  pub stack-name : {p q : ℕ} (s : Bytes) (t : Table Bytes) (m : List ℕ) (c : Bool) (r : Expr Span) → p ≡ x → q ≡ y → c ≡ member (bytesAt s (p, q)) stackNames → c ≡ true → At w i r → Right t m → Changing s t m m r
+  stack-name s t m c r d e g h b l = rw (ident-is r b) (record { searches = searches-none l; reaches = at-name (rw (d, e, h) at (sym g)) })
+
+  -- one that does not, and what a search by name found
+  module _ {p q : ℕ} {rules rows : List ℕ} (s : Bytes) (t : Table Span) (lent : Lent t rules rows) (m : List ℕ) (c : Bool) (found : Found′) (r : Expr Span) (d : p ≡ x) (e : q ≡ y) (g : c ≡ member (bytesAt s (p, q)) stackNames) (h : c ≡ false) (finds : Finds (length rules / 4) rules s (bytesAt s (p, q)) found) (b : At w i r) where
+    plain : member (bytesAt s (x, y)) stackNames ≡ false
+    plain = rw (d, e, h) at (sym g)
+
+    here : Finds (length rules / 4) rules s (bytesAt s (x, y)) found
+    here = rw (d, e) at finds
+
+    pub ident-nothing : found ≡ Nothing → Right (resolveTable s t) m → Passing s (resolveTable s t) m m r
+    ident-nothing o l =
+        let u : Finds (length rules / 4) rules s (bytesAt s (x, y)) Nothing = rw o at here in
+        let v : memoryOf (resolveTable s t) m (bytesAt s (x, y)) ≡ 2 = memory-none (resolveTable s t) m (bytesAt s (x, y)) (not-found s (bytesAt s (x, y)) t (rw (lent .heads) u)) in
+        rw (ident-is r b)
+        (record {
+          searches = searches-none l;
+          closed = closed-none (resolveTable s t) m;
+          quiet = or-no (member (bytesAt s (x, y)) stackNames) (loud (resolveTable s t) m (bytesAt s (x, y))) plain (ap (λ (j : ℕ). not (isQuiet j)) v);
+        })
+
+    module _ {j : ℕ} (o : found ≡ Sited j) where
+      first : First (length rules / 4) rules s (bytesAt s (x, y)) j
+      first = rw o at here
+
+      rule : Looked s (bytesAt s (x, y)) t j
+      rule = looked s (bytesAt s (x, y)) t j (rw (lent .heads) first)
+
+      memory : (m′ : List ℕ) → memoryOf (resolveTable s t) m′ (bytesAt s (x, y)) ≡ stateOf m′ j
+      memory m′ = memory-first s (bytesAt s (x, y)) m′ t j (rule .rule) (rule .is) (rule .same) (λ k u l v e. first .first k l (ap (λ (ws : List ℕ). nameOf ws s k) (sym (lent .heads)) ∙ name-is s t k u v ∙ e))
+
+      module _ {m′ : List ℕ} {v : Bool} (a : Looks (resolveTable s t) m m′ j v) where
+        pub ident-changes : v ≡ true → Changing s (resolveTable s t) m m′ r
+        ident-changes u =
+            rw (ident-is r b)
+            (record {
+              searches = a .searches;
+              reaches = through (rule .finds) (a .searches .right .yes j (resolveRule s (rule .rule)) (rule-resolved s t j (rule .rule) (rule .is)) (a .yes u));
+            })
+
+        pub ident-passes : v ≡ false → Passing s (resolveTable s t) m m′ r
+        ident-passes u =
+            rw (ident-is r b)
+            (record {
+              searches = a .searches;
+              closed = a .closed u;
+              quiet = or-no (member (bytesAt s (x, y)) stackNames) (loud (resolveTable s t) m′ (bytesAt s (x, y))) plain (ap not (quiet-at (memoryOf (resolveTable s t) m′ (bytesAt s (x, y))) (stateOf m′ j) (memory m′) (a .quiet u)));
+            })

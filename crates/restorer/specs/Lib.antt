@@ -1,0 +1,5 @@
+-- What a search for a change of the stack remembers and says.
+pub mod Search
+pub mod Lends
+pub mod Walks
+pub mod Restores

@@ -1,0 +1,79 @@
+-- What is written of a restored tree, and what shows of it. Assumes nothing.
+use mathlib.Core.Path.{_≡_}
+use mathlib.Core.Bool.{Bool, true, false, _||_, cond}
+use mathlib.Core.List.{List}
+use Prim.Native.Nat.{ℕ, _+_, _-_, _*_, _/_, _^_, _≤_, _<_}
+use lib.ListN.{length}
+use lib.Dec.{eqb}
+use Rattle.grammar.specs.Basic.{Bytes, member}
+use Rattle.grammar.specs.Tree.{Head, Ident, E, lit}
+use Rattle.grammar.specs.Table.{Table}
+use Rattle.grammar.specs.Stack.{stackNames, changes}
+use Rattle.grammar.specs.Steps.{guarded}
+use Rattle.rows.specs.Rows.{Inside, kindAt, xAt, yAt}
+use Rattle.writing.specs.Writes.{RowPut, Fits, Written}
+use Rattle.writing.specs.declared.Place.{Place}
+use Rattle.names.specs.Names.{Hashed, Finds}
+use Rattle.names.specs.declared.Found.{Found}
+use Rattle.names.specs.declared.Found.the-variants.{At, Nothing}
+use Rattle.restorer.specs.Search.{stateOf}
+use Rattle.restorer.specs.declared.Restored.{Restored}
+use Rattle.restorer.specs.declared.Restored.the-variants.{To, Full}
+
+-- Opt, Rep and Choice: what is below gets RestoreOnErr
+abbrev pub isGuard : ℕ → Bool
+isGuard k = eqb k 9 || (eqb k 10 || eqb k 11)
+
+unfoldable pub guardedIf : Table Bytes → Bool → E → E
+unfolding guarded
+guardedIf t g e = cond g (guarded t e) e
+
+-- what shows through a row of kind k, where b shows below it: all of a Push, nothing of a RestoreOnErr
+abbrev pub showsThrough : ℕ → Bool → Bool
+showsThrough k b = cond (eqb k 18) true (cond (eqb k 19) false b)
+
+-- what the marks say of a rule that was found
+abbrev pub saysFound : List ℕ → Found → Bool
+saysFound m (At i) = eqb (stateOf m i) 3
+saysFound m Nothing = false
+
+-- the marks say of every name whether the stack can change through it
+pub record Sure (t : Table Bytes) (rules : List ℕ) (text : Bytes) (m : List ℕ) : Type 0 where
+  pub name : (key : Bytes) (f : Found) → Finds (length rules / 4) rules text key f → changes t (lit Ident key) ≡ (member key stackNames || saysFound m f)
+
+-- the table and the marks of a source
+pub record Known (rules marks rows : List ℕ) (text : Bytes) : Type 0 where
+  pub table : Table Bytes
+  pub sure : Sure table rules text marks
+  pub hashed : Hashed rules text marks
+  pub inside : Inside rows (length text)
+
+-- row i, as it was read
+pub record RowIs (w : List ℕ) (i k x y : ℕ) : Type 0 where
+  pub kind : kindAt w i ≡ k
+  pub first : xAt w i ≡ x
+  pub second : yAt w i ≡ y
+
+-- the tree e stands at p, and b says whether the stack can change through it; or it does not fit
+pub record Shown (q p : Place) (b : Bool) (t : Table Bytes) (e : E) (o o′ l l′ : List ℕ) : Type 0 where
+  pub written : Written q p e o o′ l l′
+  pub shows : b ≡ changes t e
+
+abbrev pub RestoredAnswer : Restored → Place → Table Bytes → E → (o o′ l l′ : List ℕ) → Type 0
+RestoredAnswer (To q b) p t e o o′ l l′ = Shown q p b t e o o′ l l′
+RestoredAnswer Full p t e o o′ l l′ = Fits p e o l → ⊥
+
+-- a row goes over what stands from p to q
+pub record Over (p q : Place) (o : List ℕ) : Type 0 where
+  pub low : p .rows ≤ q .rows
+  pub high : q .rows ≤ length o / 4
+  pub words : length o < 2 ^ 32
+
+-- its head is h, and c shows through it where b shows below
+pub record NodePut (s p q : Place) (c : Bool) (h : Head) (b : Bool) (o o′ : List ℕ) : Type 0 where
+  pub row : RowPut s q h (q .rows - p .rows + 1) o o′
+  pub shows : c ≡ showsThrough (h .0) b
+
+abbrev pub NodeAnswer : Restored → Place → Place → Head → Bool → (o o′ : List ℕ) → Type 0
+NodeAnswer (To s c) p q h b o o′ = NodePut s p q c h b o o′
+NodeAnswer Full p q h b o o′ = q .rows < length o / 4 → ⊥

@@ -1,0 +1,67 @@
+-- A search over rows from a tree's last row to its first: what is left to look at is a run of trees, the last on top. Assumes nothing.
+use mathlib.Core.Path.{_≡_}
+use mathlib.Core.Bool.{Bool, true, false, cond}
+use mathlib.Core.List.{List, [], _∷_}
+use Prim.Native.Nat.{ℕ, _+_, _-_, _≤_}
+use lib.Dec.{eqb}
+use Rattle.grammar.specs.Basic.{Bytes}
+use Rattle.grammar.specs.Tree.{Expr, E, lit, fixed, skip, un, bin, size, isUn}
+use Rattle.grammar.specs.Rows.{Span}
+use Rattle.grammar.specs.Text.{resolve}
+use Rattle.grammar.specs.Table.{Table}
+use Rattle.grammar.specs.Stack.{Reaches, changesLit}
+use Rattle.rows.specs.Rows.{At}
+use Rattle.restorer.specs.Search.{loud, Searches, Closed}
+use Rattle.restorer.specs.declared.Step.{Step}
+use Rattle.restorer.specs.declared.Step.the-variants.{Changes, Next}
+
+-- the trees stand one after the other from row `from` up to row i
+abbrev pub Run : List ℕ → ℕ → ℕ → List (Expr Span) → Type 0
+Run w from i [] = i ≡ from
+Run w from i (q ∷ qs) = (1 ≤ i) × (At w (i - 1) q × Run w from (i - size q) qs)
+
+-- what is to be looked at below a root: "children of a RestoreOnErr already set are not looked at"
+abbrev pub below : Expr Span → List (Expr Span)
+below (lit k s) = []
+below (fixed f) = []
+below (skip ss) = []
+below (un u e) = cond (isUn 19 u) [] (e ∷ [])
+below (bin b l r) = r ∷ l ∷ []
+
+-- whether the stack can change at a root itself: `look` says whether it can through a name
+abbrev pub changesAt : (Bytes → Bool) → E → Bool
+changesAt look (lit k s) = changesLit look k s
+changesAt look (fixed f) = false
+changesAt look (skip ss) = false
+changesAt look (un u e) = isUn 18 u
+changesAt look (bin b l r) = false
+
+abbrev pub pick : Bool → Step → Step → Step
+pick true a b = a
+pick false a b = b
+
+-- the step from a row of kind k that is no Ident, row i, with the size n: a Push changes the stack; past a Skip or a RestoreOnErr, or on to the
+-- row before
+unfoldable pub stepFrom : ℕ → ℕ → ℕ → Step
+stepFrom k i n =
+    pick (eqb k 18) Changes (pick (eqb k 17) (Next (i + 1 - n)) (pick (eqb k 19) (Next (i + 1 - n)) (Next i)))
+
+-- a change is reached from the tree r
+pub record Changing (s : Bytes) (t : Table Bytes) (m m′ : List ℕ) (r : Expr Span) : Type 0 where
+  pub searches : Searches t m m′
+  pub reaches : Reaches t (resolve s r)
+
+-- none is found at its root
+pub record Passing (s : Bytes) (t : Table Bytes) (m m′ : List ℕ) (r : Expr Span) : Type 0 where
+  pub searches : Searches t m m′
+  pub closed : Closed t m m′
+  pub quiet : changesAt (loud t m′) (resolve s r) ≡ false
+
+abbrev pub Visited : Step → Bytes → Table Bytes → (m m′ : List ℕ) → Expr Span → Type 0
+Visited Changes s t m m′ r = Changing s t m m′ r
+Visited (Next j) s t m m′ r = Passing s t m m′ r
+
+-- where it is none, what is below the root, row i, stands up to row j
+abbrev pub GoesOn : Step → List ℕ → ℕ → Expr Span → Type 0
+GoesOn Changes w i r = Unit {0}
+GoesOn (Next j) w i r = (j ≤ i) × Run w (i + 1 - size r) j (below r)

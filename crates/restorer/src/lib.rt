@@ -1,0 +1,484 @@
+// Restore. A rule's memory is word 1 of its mark: 0 not seen, 1 seen in this search, 2 the stack cannot change through it, 3 it can.
+ghost use mathlib.Core.Path.{_≡_};
+ghost use mathlib.Core.Bool.{false, _||_};
+ghost use Prim.Native.Nat.{ℕ, _+_, _-_, _*_, _/_, _^_, _≤_, _<_};
+ghost use lib.ListN.{length, getD};
+ghost use Rattle.grammar.specs.Tree.{Expr};
+ghost use Rattle.grammar.specs.Rows.{Span};
+ghost use Rattle.grammar.specs.Text.{resolve};
+ghost use Rattle.grammar.specs.Table.{Table, resolveTable};
+ghost use Rattle.grammar.specs.Tree as tree;
+ghost use Rattle.grammar.specs.Basic.{Bytes};
+ghost use Rattle.grammar.specs.Text.{bytesAt};
+ghost use Rattle.grammar.specs.Stack.{changes};
+ghost use Rattle.grammar.specs.Steps as steps;
+ghost use Rattle.rows.specs.Rows.{Inside, At, Stands, shapeOf};
+ghost use Rattle.rows.specs.declared.Shape.the-variants.{One, Two};
+ghost use Rattle.writing.specs.Writes.{Room, Answer};
+ghost use Rattle.names.specs.Names.{marked, Hashed};
+ghost use Rattle.restorer.specs.Search.{Right, Answers, Looks, turnedTo, withTurned, Rested, RuleSettled};
+ghost use Rattle.restorer.specs.Lends.{Lent, Marked, Given, Steady, Ran, TreeRows, Settles};
+ghost use Rattle.restorer.specs.Walks.{stepFrom, GoesOn, Visited};
+ghost use Rattle.restorer.specs.Restores.{isGuard, showsThrough, guardedIf, Sure, Known, RowIs, RestoredAnswer, Over, NodeAnswer};
+use names::Found;
+use rows::Lookup;
+use rows::Shape;
+use rows::wide;
+use writing::Place;
+use writing::Wrote;
+
+const UNSEEN: u32 = 0;
+
+const SEEN: u32 = 1;
+
+const NO: u32 = 2;
+
+const YES: u32 = 3;
+
+// What a row says of the stack: it can change, or nothing shows yet and the search goes on before this row.
+pub enum Step {
+    Changes,
+    Next(usize),
+}
+
+// The step from row i, which is no Ident.
+fn step_from(kind: u32, i: usize, size: usize) -> Step
+    requires { ⌜ (size ≤ i + 1) × (i + 1 < 2 ^ 64) ⌝ }
+    ensures { λ a. ⌜ a ≡ stepFrom kind i size ⌝ }
+{
+    if kind == 18 {
+        return Step::Changes;
+    }
+    if kind == 17 {
+        return Step::Next(i + 1 - size);
+    }
+    // already set: its child is not looked at
+    if kind == 19 {
+        return Step::Next(i + 1 - size);
+    }
+    Step::Next(i)
+}
+
+// Whether the stack can change through rule i, as far as this search can tell.
+pub fn look(rules: &[u32], rows: &[u32], text: &[u8], marks: &mut [u32], i: usize) -> bool
+    requires { ⌜ Given (now rules) (now rows) (now text) (now marks) ⌝ }
+    requires { ⌜ i < length (now rules) / 4 ⌝ }
+    ensures { λ b. ⌜ Ran (now (marks .entry)) (now (marks .exit)) ⌝ }
+    ensures { λ b. ⌜ ((t : Table Span) → Lent t (now (rules .entry)) (now (rows .entry)) → Right (resolveTable (now (text .entry)) t) (now (marks .entry)) → Looks (resolveTable (now (text .entry)) t) (now (marks .entry)) (now (marks .exit)) i b) ⌝ }
+{
+    let at = i * 4;
+    let state = marks[at + 1];
+    if state == YES {
+        return true;
+    }
+    if state != UNSEEN {
+        return false;
+    }
+    let end = wide(marks[at + 3]);
+    marks[at + 1] = SEEN;
+    if walk(rules, rows, text, marks, end - wide(rules[at + 3]), end) {
+        marks[at + 1] = YES;
+        return true;
+    }
+    false
+}
+
+// Whether the stack can change at row i; where it is an Ident, through its rule.
+pub fn visit(rules: &[u32], rows: &[u32], text: &[u8], marks: &mut [u32], i: usize) -> Step
+    requires { ⌜ Given (now rules) (now rows) (now text) (now marks) ⌝ }
+    requires { ⌜ Stands (now rows) i ⌝ }
+    ensures { λ a. ⌜ Ran (now (marks .entry)) (now (marks .exit)) ⌝ }
+    ensures { λ a. ⌜ ((r : Expr Span) → At (now (rows .entry)) i r → GoesOn a (now (rows .entry)) i r) ⌝ }
+    ensures { λ a. ⌜ ((t : Table Span) (r : Expr Span) → Lent t (now (rules .entry)) (now (rows .entry)) → At (now (rows .entry)) i r → Right (resolveTable (now (text .entry)) t) (now (marks .entry)) → Visited a (now (text .entry)) (resolveTable (now (text .entry)) t) (now (marks .entry)) (now (marks .exit)) r) ⌝ }
+{
+    let Lookup::Row { kind, x, y, size } = rows::row_at(rows, i) else {
+        return Step::Changes;
+    };
+    if kind != 3 {
+        return step_from(kind, i, wide(size));
+    }
+    let offset = wide(x);
+    let n = wide(y);
+    if names::changes_stack(text, offset, n) {
+        return Step::Changes;
+    }
+    let Found::At(k) = names::find_rule(rules, text, marks, text, offset, n) else {
+        return Step::Next(i);
+    };
+    if look(rules, rows, text, marks, k) {
+        Step::Changes
+    } else {
+        Step::Next(i)
+    }
+}
+
+// Whether the stack can change through the tree of the rows from `from` to `end`, as far as this search can tell.
+pub fn walk(
+    rules: &[u32],
+    rows: &[u32],
+    text: &[u8],
+    marks: &mut [u32],
+    from: usize,
+    end: usize,
+) -> bool
+    requires { ⌜ Given (now rules) (now rows) (now text) (now marks) ⌝ }
+    requires { ⌜ TreeRows (now rows) from end ⌝ }
+    ensures { λ b. ⌜ Ran (now (marks .entry)) (now (marks .exit)) ⌝ }
+    ensures { λ b. ⌜ ((t : Table Span) (r : Expr Span) → Lent t (now (rules .entry)) (now (rows .entry)) → At (now (rows .entry)) (end - 1) r → Right (resolveTable (now (text .entry)) t) (now (marks .entry)) → Answers (resolveTable (now (text .entry)) t) (now (marks .entry)) (now (marks .exit)) (resolve (now (text .entry)) r) b) ⌝ }
+{
+    let mut i = end;
+    while from < i {
+        let Step::Next(j) = visit(rules, rows, text, marks, i - 1) else {
+            return true;
+        };
+        i = j;
+    }
+    false
+}
+
+// What a rule's memory becomes when a search ends: `to` where the search has seen it.
+fn turned(state: u32, to: u32) -> u32
+    ensures { λ r. ⌜ r ≡ turnedTo to state ⌝ }
+{
+    if state == SEEN { to } else { state }
+}
+
+// Ends a search: the rules that it has seen turn to `to`.
+fn turn(marks: &mut [u32], count: usize, to: u32)
+    requires { ⌜ count * 4 ≤ length (now marks) ⌝ }
+    ensures { λ _. ⌜ now (marks .exit) ≡ withTurned to count (now (marks .entry)) ⌝ }
+{
+    let mut i = 0;
+    while i < count {
+        let at = i * 4 + 1;
+        marks[at] = turned(marks[at], to);
+        i += 1;
+    }
+}
+
+// Forgets what is known of the rules.
+fn forget(marks: &mut [u32], count: usize)
+    requires { ⌜ count * 4 ≤ length (now marks) ⌝ }
+    ensures { λ _. ⌜ now (marks .exit) ≡ marked (λ _. 0) 1 count (now (marks .entry)) ⌝ }
+{
+    let mut i = 0;
+    while i < count {
+        marks[i * 4 + 1] = UNSEEN;
+        i += 1;
+    }
+}
+
+// Settles rule i. A "no" that was found while another rule was open is settled only where the whole search ends in "no".
+fn settle_rule(rules: &[u32], rows: &[u32], text: &[u8], marks: &mut [u32], i: usize)
+    requires { ⌜ Given (now rules) (now rows) (now text) (now marks) ⌝ }
+    requires { ⌜ i < length (now rules) / 4 ⌝ }
+    ensures { λ _. ⌜ Steady (now (marks .entry)) (now (marks .exit)) ⌝ }
+    ensures { λ _. ⌜ ((t : Table Span) → Lent t (now (rules .entry)) (now (rows .entry)) → Rested (resolveTable (now (text .entry)) t) (now (marks .entry)) → RuleSettled (resolveTable (now (text .entry)) t) (now (marks .entry)) (now (marks .exit)) i) ⌝ }
+{
+    if marks[i * 4 + 1] != UNSEEN {
+        return;
+    }
+    let count = rules.len() / 4;
+    if look(rules, rows, text, marks, i) {
+        turn(marks, count, UNSEEN);
+    } else {
+        turn(marks, count, NO);
+    }
+}
+
+// Settles every rule of the table: whether the stack can change through it.
+pub fn settle(rules: &[u32], rows: &[u32], text: &[u8], marks: &mut [u32])
+    requires { ⌜ Marked (now rules) (now rows) (now text) (now marks) ⌝ }
+    requires { ⌜ length (now rows) < 2 ^ 32 ⌝ }
+    ensures { λ _. ⌜ Given (now (rules .entry)) (now (rows .entry)) (now (text .entry)) (now (marks .exit)) ⌝ }
+    ensures { λ _. ⌜ Settles (now (rules .entry)) (now (rows .entry)) (now (text .entry)) (now (marks .exit)) ⌝ }
+{
+    names::mark_ends(rules, marks);
+    let count = rules.len() / 4;
+    forget(marks, count);
+    let mut i = 0;
+    while i < count {
+        settle_rule(rules, rows, text, marks, i);
+        i += 1;
+    }
+}
+
+// The place after a tree that was written, with whether the stack can change through it; or Full where it does not fit.
+pub enum Restored {
+    To(Place, bool),
+    Full,
+}
+
+// Whether what is below a row of this kind gets RestoreOnErr: Opt, Rep and Choice.
+fn guards(kind: u32) -> bool
+    ensures { λ r. ⌜ r ≡ isGuard kind ⌝ }
+{
+    if kind == 9 {
+        return true;
+    }
+    if kind == 10 {
+        return true;
+    }
+    kind == 11
+}
+
+// What shows through a row of this kind, where b shows below it.
+fn shows(kind: u32, b: bool) -> bool
+    ensures { λ r. ⌜ r ≡ showsThrough kind b ⌝ }
+{
+    if kind == 18 {
+        return true;
+    }
+    if kind == 19 {
+        return false;
+    }
+    b
+}
+
+// Whether either shows.
+fn either(a: bool, b: bool) -> bool
+    ensures { λ r. ⌜ r ≡ (a || b) ⌝ }
+{
+    if a {
+        return true;
+    }
+    b
+}
+
+// Writes a row over what stands from p to q, of which b shows.
+fn node(out: &mut [u32], p: Place, q: Place, kind: u32, x: u32, y: u32, b: bool) -> Restored
+    requires { ⌜ Over p q (now out) ⌝ }
+    ensures { λ a. ⌜ NodeAnswer a p q (kind, x, y) b (now (out .entry)) (now (out .exit)) ⌝ }
+{
+    let n = q.rows - p.rows + 1;
+    let Wrote::Done(s) = writing::put_row(out, q, kind, x, y, n as u32) else {
+        return Restored::Full;
+    };
+    let c = shows(kind, b);
+    Restored::To(s, c)
+}
+
+// Whether the stack can change through the name of n bytes at x.
+fn through(rules: &[u32], marks: &[u32], text: &[u8], x: usize, n: usize) -> bool
+    requires { ⌜ Hashed (now rules) (now text) (now marks) ⌝ }
+    requires { ⌜ x + n ≤ length (now text) ⌝ }
+    ensures { λ b. ⌜ ((t : Table Bytes) → Sure t (now (rules .entry)) (now (text .entry)) (now (marks .entry)) → b ≡ changes t (tree.lit tree.Ident (bytesAt (now (text .entry)) (x, n)))) ⌝ }
+{
+    if names::changes_stack(text, x, n) {
+        return true;
+    }
+    let Found::At(i) = names::find_rule(rules, text, marks, text, x, n) else {
+        return false;
+    };
+    marks[i * 4 + 1] == YES
+}
+
+// Writes a literal at p.
+fn literal(
+    rules: &[u32],
+    marks: &[u32],
+    text: &[u8],
+    kind: u32,
+    x: u32,
+    y: u32,
+    out: &mut [u32],
+    lits: &mut [u8],
+    p: Place,
+) -> Restored
+    requires { ⌜ Hashed (now rules) (now text) (now marks) ⌝ }
+    requires { ⌜ x + y ≤ length (now text) ⌝ }
+    requires { ⌜ Room p (now out) (now lits) ⌝ }
+    ensures { λ a. ⌜ ((t : Table Bytes) (k : tree.Lit) → Sure t (now (rules .entry)) (now (text .entry)) (now (marks .entry)) → kind ≡ tree.litKind k → RestoredAnswer a p t (tree.lit k (bytesAt (now (text .entry)) (x, y))) (now (out .entry)) (now (out .exit)) (now (lits .entry)) (now (lits .exit))) ⌝ }
+{
+    let offset = wide(x);
+    let n = wide(y);
+    let Wrote::Done(q) = writing::put_lit(text, offset, n, kind, out, lits, p) else {
+        return Restored::Full;
+    };
+    if kind != 3 {
+        return Restored::To(q, false);
+    }
+    let b = through(rules, marks, text, offset, n);
+    Restored::To(q, b)
+}
+
+// Writes a row of numbers, or a Skip with its strings, at p: nothing shows of it.
+fn plain(
+    rows: &[u32],
+    text: &[u8],
+    root: usize,
+    out: &mut [u32],
+    lits: &mut [u8],
+    p: Place,
+) -> Restored
+    requires { ⌜ Inside (now rows) (length (now text)) ⌝ }
+    requires { ⌜ Stands (now rows) root ⌝ }
+    requires { ⌜ Room p (now out) (now lits) ⌝ }
+    ensures { λ a. ⌜ ((t : Table Bytes) (r : Expr Span) → At (now (rows .entry)) root r → changes t (resolve (now (text .entry)) r) ≡ false → RestoredAnswer a p t (resolve (now (text .entry)) r) (now (out .entry)) (now (out .exit)) (now (lits .entry)) (now (lits .exit))) ⌝ }
+{
+    let Wrote::Done(q) = writing::copy(rows, text, root, out, lits, p) else {
+        return Restored::Full;
+    };
+    Restored::To(q, false)
+}
+
+// Writes the subtree of row `root` at p, restored, and if `guard` under a RestoreOnErr where the stack can change through it.
+pub fn child(
+    rules: &[u32],
+    marks: &[u32],
+    rows: &[u32],
+    text: &[u8],
+    root: usize,
+    guard: bool,
+    out: &mut [u32],
+    lits: &mut [u8],
+    p: Place,
+) -> Restored
+    requires { ⌜ Known (now rules) (now marks) (now rows) (now text) ⌝ }
+    requires { ⌜ Stands (now rows) root ⌝ }
+    requires { ⌜ Room p (now out) (now lits) ⌝ }
+    ensures { λ a. ⌜ ((t : Table Bytes) (r : Expr Span) → Sure t (now (rules .entry)) (now (text .entry)) (now (marks .entry)) → At (now (rows .entry)) root r → RestoredAnswer a p t (guardedIf t guard (steps.restore t (resolve (now (text .entry)) r))) (now (out .entry)) (now (out .exit)) (now (lits .entry)) (now (lits .exit))) ⌝ }
+{
+    let Restored::To(q, b) = put(rules, marks, rows, text, root, out, lits, p) else {
+        return Restored::Full;
+    };
+    if guard {
+        if b {
+            return node(out, p, q, 19, 0, 0, b);
+        }
+    }
+    Restored::To(q, b)
+}
+
+// Writes the subtree of row `root`, which has one child, at p.
+pub fn one(
+    rules: &[u32],
+    marks: &[u32],
+    rows: &[u32],
+    text: &[u8],
+    root: usize,
+    kind: u32,
+    x: u32,
+    y: u32,
+    out: &mut [u32],
+    lits: &mut [u8],
+    p: Place,
+) -> Restored
+    requires { ⌜ Known (now rules) (now marks) (now rows) (now text) ⌝ }
+    requires { ⌜ Stands (now rows) root ⌝ }
+    requires { ⌜ Room p (now out) (now lits) ⌝ }
+    requires { ⌜ RowIs (now rows) root kind x y × (shapeOf kind ≡ One) ⌝ }
+    ensures { λ a. ⌜ ((t : Table Bytes) (r : Expr Span) → Sure t (now (rules .entry)) (now (text .entry)) (now (marks .entry)) → At (now (rows .entry)) root r → RestoredAnswer a p t (steps.restore t (resolve (now (text .entry)) r)) (now (out .entry)) (now (out .exit)) (now (lits .entry)) (now (lits .exit))) ⌝ }
+{
+    let guard = guards(kind);
+    let Restored::To(q, b) = child(rules, marks, rows, text, root - 1, guard, out, lits, p) else {
+        return Restored::Full;
+    };
+    node(out, p, q, kind, x, y, b)
+}
+
+// Writes the subtree of row `root`, which has two children, at p.
+pub fn two(
+    rules: &[u32],
+    marks: &[u32],
+    rows: &[u32],
+    text: &[u8],
+    root: usize,
+    kind: u32,
+    out: &mut [u32],
+    lits: &mut [u8],
+    p: Place,
+) -> Restored
+    requires { ⌜ Known (now rules) (now marks) (now rows) (now text) ⌝ }
+    requires { ⌜ Stands (now rows) root ⌝ }
+    requires { ⌜ Room p (now out) (now lits) ⌝ }
+    requires { ⌜ RowIs (now rows) root kind 0 0 × (shapeOf kind ≡ Two) ⌝ }
+    ensures { λ a. ⌜ ((t : Table Bytes) (r : Expr Span) → Sure t (now (rules .entry)) (now (text .entry)) (now (marks .entry)) → At (now (rows .entry)) root r → RestoredAnswer a p t (steps.restore t (resolve (now (text .entry)) r)) (now (out .entry)) (now (out .exit)) (now (lits .entry)) (now (lits .exit))) ⌝ }
+{
+    let right = root - 1;
+    let Lookup::Row {
+        kind: _,
+        x: _,
+        y: _,
+        size: n,
+    } = rows::row_at(rows, right)
+    else {
+        return Restored::Full;
+    };
+    let guard = guards(kind);
+    let Restored::To(q, b) = child(
+        rules,
+        marks,
+        rows,
+        text,
+        right - wide(n),
+        guard,
+        out,
+        lits,
+        p,
+    ) else {
+        return Restored::Full;
+    };
+    let Restored::To(s, c) = child(rules, marks, rows, text, right, guard, out, lits, q) else {
+        return Restored::Full;
+    };
+    let shown = either(b, c);
+    node(out, p, s, kind, 0, 0, shown)
+}
+
+// Writes the subtree of row `root` at p, restored, and tells what shows of it.
+pub fn put(
+    rules: &[u32],
+    marks: &[u32],
+    rows: &[u32],
+    text: &[u8],
+    root: usize,
+    out: &mut [u32],
+    lits: &mut [u8],
+    p: Place,
+) -> Restored
+    requires { ⌜ Known (now rules) (now marks) (now rows) (now text) ⌝ }
+    requires { ⌜ Stands (now rows) root ⌝ }
+    requires { ⌜ Room p (now out) (now lits) ⌝ }
+    ensures { λ a. ⌜ ((t : Table Bytes) (r : Expr Span) → Sure t (now (rules .entry)) (now (text .entry)) (now (marks .entry)) → At (now (rows .entry)) root r → RestoredAnswer a p t (steps.restore t (resolve (now (text .entry)) r)) (now (out .entry)) (now (out .exit)) (now (lits .entry)) (now (lits .exit))) ⌝ }
+{
+    let Lookup::Row {
+        kind,
+        x,
+        y,
+        size: _,
+    } = rows::row_at(rows, root)
+    else {
+        return Restored::Full;
+    };
+    match rows::shape_of(kind) {
+        Shape::Lit => literal(rules, marks, text, kind, x, y, out, lits, p),
+        Shape::Num => plain(rows, text, root, out, lits, p),
+        Shape::One => one(rules, marks, rows, text, root, kind, x, y, out, lits, p),
+        Shape::Two => two(rules, marks, rows, text, root, kind, out, lits, p),
+        Shape::Skips => plain(rows, text, root, out, lits, p),
+    }
+}
+
+// Step 7 on the subtree of row `root`, packed at p. The table is the one that is lent, and its rules are settled.
+pub fn restore(
+    rules: &[u32],
+    marks: &[u32],
+    rows: &[u32],
+    text: &[u8],
+    root: usize,
+    out: &mut [u32],
+    lits: &mut [u8],
+    p: Place,
+) -> Wrote
+    requires { ⌜ Marked (now rules) (now rows) (now text) (now marks) ⌝ }
+    requires { ⌜ Settles (now rules) (now rows) (now text) (now marks) ⌝ }
+    requires { ⌜ Stands (now rows) root ⌝ }
+    requires { ⌜ Room p (now out) (now lits) ⌝ }
+    ensures { λ a. ⌜ ((t : Table Span) (r : Expr Span) → Lent t (now (rules .entry)) (now (rows .entry)) → At (now (rows .entry)) root r → Answer a p (steps.restore (resolveTable (now (text .entry)) t) (resolve (now (text .entry)) r)) (now (out .entry)) (now (out .exit)) (now (lits .entry)) (now (lits .exit))) ⌝ }
+{
+    let Restored::To(q, _) = put(rules, marks, rows, text, root, out, lits, p) else {
+        return Wrote::Full;
+    };
+    Wrote::Done(q)
+}
