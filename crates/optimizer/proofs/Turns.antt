@@ -7,7 +7,7 @@ use lib.ListN.{length, take}
 use Rattle.grammar.specs.Basic.{Bytes}
 use Rattle.grammar.specs.Tree.{E}
 use Rattle.grammar.specs.Rows.{Span}
-use Rattle.grammar.specs.Table.{Table, packedFrom, resolveTable}
+use Rattle.grammar.specs.Table.{Table, packedFrom, resolveTable, tableText}
 use Rattle.grammar.specs.Steps.{each}
 use Rattle.writing.specs.declared.Place.{Place}
 use Rattle.writing.specs.declared.Wrote.{Wrote}
@@ -26,7 +26,7 @@ turn-passing {step} {rs₀} {ws₀} {text₀} {marks} {n} {p} {os} {o} {s} {os�
       table = packedFrom 0 (k .table);
       holds = holds-part (k .table) n (k .count) (k .front);
       fits = λ _. subst (λ (t : Table Bytes). TableFits t os₂ o₂ s₂) (sym (front-is (k .table) (k .front))) (k .room);
-      asks = subst (λ (x : Bytes). AsksAll step rs₀ ws₀ text₀ marks x (packedFrom 0 (k .table))) (sym (k .front .bytes)) (k .asks);
+      asks = subst (λ (x : Bytes). AsksAll step rs₀ ws₀ text₀ marks (take (p .rows * 4) o) x (packedFrom 0 (k .table))) (sym (k .front .bytes)) (subst (λ (w : List ℕ). AsksAll step rs₀ ws₀ text₀ marks w (tableText (k .table)) (packedFrom 0 (k .table))) (sym (k .front .row-words)) (k .asks));
     }
 
 pub turn-answer : (a : Wrote) (F : ℕ → E → E) {p : Place} (t : Table Bytes) {os o s : List ℕ} (n : ℕ) (os₂ o₂ s₂ os′ o′ s′ : List ℕ) → Front p t os o s → n ≡ length t * 4 → (Holds (packedFrom 0 t) (take n os) (take (p .rows * 4) o) (take (p .text) s) → PassAnswer a (each F (resolveTable (take (p .text) s) (packedFrom 0 t))) os₂ o₂ s₂ os′ o′ s′) → PassAnswer a (each F t) os₂ o₂ s₂ os′ o′ s′

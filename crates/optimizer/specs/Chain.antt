@@ -5,7 +5,7 @@ use Prim.Native.Nat.{ℕ, _*_}
 use lib.ListN.{length}
 use Rattle.grammar.specs.Basic.{Bytes}
 use Rattle.grammar.specs.Rows.{Span}
-use Rattle.grammar.specs.Table.{Table, tableText, packedFrom}
+use Rattle.grammar.specs.Table.{Table, tableText, packedFrom, wordsOf}
 use Rattle.writing.specs.declared.Place.{Place}
 use Rattle.passes.specs.Passes.{AsksAll, Lent, Front, TableFits}
 
@@ -17,4 +17,4 @@ pub record Turning (step : ℕ) (rs₀ ws₀ : List ℕ) (text₀ : Bytes) (mark
   pub front : Front p table os o s
   pub count : n ≡ length table * 4
   pub room : TableFits table os₂ o₂ s₂
-  pub asks : AsksAll step rs₀ ws₀ text₀ marks (tableText table) (packedFrom 0 table)
+  pub asks : AsksAll step rs₀ ws₀ text₀ marks (wordsOf table .rows) (tableText table) (packedFrom 0 table)

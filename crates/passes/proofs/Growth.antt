@@ -11,7 +11,7 @@ use Rattle.grammar.specs.Tree.{E, Expr, size, anyNode}
 use Rattle.grammar.specs.Rows.{Span}
 use Rattle.grammar.specs.Text.{bytesAt, resolve, textOf}
 use Rattle.grammar.specs.Table.{Rule, Table, Atomic, rowCount, ruleText, tableText, resolveRule, resolveTable}
-use Rattle.grammar.specs.Steps.{each, onRule, orSame, bottomUp, concat?, rotate, skipTo, unroll, concatenate, factor, list}
+use Rattle.grammar.specs.Steps.{each, onRule, orSame, bottomUp, concat?, rotate, skipTo, unroll, concatenate, factor, list, restore}
 use Rattle.grammar.proofs.Logic.{eqb-eq}
 use Rattle.rotator.proofs.Rotations.{rotate-size, rotate-text}
 use Rattle.concatenator.proofs.Concats.{concat-size, concat-text}
@@ -57,6 +57,10 @@ pub step-two : (look : Table Bytes) (y : ℕ) (e : E) → stepOf 2 look y e ≡ 
 unfolding stepOf
 step-two look y e = refl
 
+pub step-seven : (look : Table Bytes) (y : ℕ) (e : E) → stepOf 7 look y e ≡ restore look e
+unfolding stepOf
+step-seven look y e = refl
+
 -- a step that cannot grow
 by-number : (P : E → Type 0) (n : ℕ) → grows n ≡ false → (look : Table Bytes) (y : ℕ) (e : E) → P (rotate e) → P (concatenate y e) → P (factor y e) → P (list e) → P (stepOf n look y e)
 by-number P n k look y e a b c d = go (eqb n 1) (eqb n 4) (eqb n 5) (eqb n 6) refl refl refl refl k
@@ -98,6 +102,6 @@ rule-fits-same {F} {ts} {text} {i} {end} {p} {os} {os′} {o} {s} g r rest w les
     record { rows = omega (arith, f .rows, a, g .front .rows, each-rows F less text-less D); text = omega (arith, f .text, b, g .front .text, each-text F less text-less D) }
 
 -- what is asked of every rule of a table is asked of each
-pub asks-part : {step : ℕ} {rs₀ ws₀ : List ℕ} {text₀ : Bytes} {marks : List ℕ} {text : Bytes} (done : Table Span) (r : Rule Span) (rest : Table Span) → AsksAll step rs₀ ws₀ text₀ marks text (done ++ (r ∷ rest)) → Asks step (r .type) rs₀ ws₀ text₀ marks text (r .body)
+pub asks-part : {step : ℕ} {rs₀ ws₀ : List ℕ} {text₀ : Bytes} {marks ws : List ℕ} {text : Bytes} (done : Table Span) (r : Rule Span) (rest : Table Span) → AsksAll step rs₀ ws₀ text₀ marks ws text (done ++ (r ∷ rest)) → Asks step (r .type) rs₀ ws₀ text₀ marks ws text (r .body)
 asks-part [] r rest h = h .0
 asks-part (x ∷ done) r rest h = asks-part done r rest (h .1)

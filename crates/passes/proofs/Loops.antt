@@ -78,7 +78,7 @@ module _ {step : ℕ} {rs₀ ws₀ : List ℕ} {text₀ : Bytes} {rs ws : List �
             subst (λ (c : ℕ × ℕ). RuleFits p (bytesAt text c) (resolve text r) o s) (λ j. (sym (x .offset) j, sym (x .len) j))
             (subst (λ (b : Expr Span). RuleFits p (bytesAt text (n .0 .name)) (resolve text b) o s) (at-unique _ _ at a)
             (rule-fits-same {os′ = os₀} g (n .0) (n .1) (n .2) (λ y b. stepOf-less step k (resolveTable text₀ given) y b) (λ y b. stepOf-text step k (resolveTable text₀ given) y b) (record { rules = q .fits k .rules; rows = omega (arith, q .fits k .rows, l .out-same); text = omega (arith, q .fits k .text, l .lits-same) })));
-        asks = λ r a. subst (λ (b : Expr Span). Asks step (getD rs (i * 4 + 2) 0) rs₀ ws₀ text₀ marks text b) (at-unique _ _ at a) (subst (λ (y : ℕ). Asks step y rs₀ ws₀ text₀ marks text (n .0 .body)) (sym (x .type)) (asks-part (g .done) (n .0) (n .1) (subst (AsksAll step rs₀ ws₀ text₀ marks text) (g .whole ∙ ap (λ (y : Table Span). g .done ++ y) (n .2)) (q .asks))));
+        asks = λ r a. subst (λ (b : Expr Span). Asks step (getD rs (i * 4 + 2) 0) rs₀ ws₀ text₀ marks ws text b) (at-unique _ _ at a) (subst (λ (y : ℕ). Asks step y rs₀ ws₀ text₀ marks ws text (n .0 .body)) (sym (x .type)) (asks-part (g .done) (n .0) (n .1) (subst (AsksAll step rs₀ ws₀ text₀ marks ws text) (g .whole ∙ ap (λ (y : Table Span). g .done ++ y) (n .2)) (q .asks))));
       }
 
   -- the answer for the rule, in the rule's own terms

@@ -11,7 +11,9 @@ use Rattle.grammar.specs.Text.{resolve}
 use Rattle.grammar.specs.Table.{Table, resolveTable}
 use Rattle.skipper.specs.Lends.{Given}
 use Rattle.skipper.specs.Skips.{Settles, Settling}
-use Rattle.grammar.specs.Steps.{rotate, unroll, concatenate, factor, list}
+use Rattle.grammar.specs.Steps.{rotate, unroll, concatenate, factor, list, restore}
+use Rattle.restorer.specs.Lends as restorer
+use Rattle.restorer.specs.Lends.{Marked}
 use Rattle.grammar.proofs.Logic.{eqb-eq}
 use Rattle.rows.specs.Rows.{At, Stands}
 use Rattle.writing.specs.Writes.{Answer}
@@ -40,6 +42,18 @@ module _ {step type : ℕ} {rs₀ ws₀ : List ℕ} {text₀ : Bytes} {marks ws 
   pub settles-for : step ≡ 2 → (gs : Table Span) → Lent gs rs₀ ws₀ → (e : Expr Span) → At ws root e → type ≡ 2 → Settles (resolveTable text₀ gs) marks (resolve text e)
   settles-for h gs l e a k = r .asks e a .settles h k gs l
 
+  pub marked-for : step ≡ 7 → Marked rs₀ ws text marks
+  marked-for h = r .asks (s .tree) (s .at) .marked h
+
+  pub known-for : step ≡ 7 → restorer.Settles rs₀ ws text marks
+  known-for h = r .asks (s .tree) (s .at) .known h
+
+  pub lent-for : step ≡ 7 → (gs : Table Span) → Lent gs rs₀ ws₀ → restorer.Lent gs rs₀ ws
+  lent-for h gs l = record { heads = l .rules; trees = l .rows ∙ r .asks (s .tree) (s .at) .same-rows h }
+
+  pub look-for : step ≡ 7 → (gs : Table Span) (e : E) → restore (resolveTable text₀ gs) e ≡ restore (resolveTable text gs) e
+  look-for h gs e = ap (λ (x : Bytes). restore (resolveTable x gs) e) (r .asks (s .tree) (s .at) .same-text h)
+
 pub kept-by : (a : Wrote) (p : Place) {step : ℕ} (n : ℕ) (look : Table Bytes) (y : ℕ) (e x : E) (o o′ t t′ : List ℕ) → step ≡ n → stepOf n look y e ≡ x → KeptAnswer a p x o o′ t t′ → StepAnswer a p (stepOf step look y e) o o′ t t′
 kept-by a p n look y e x o o′ t t′ h q k = subst (λ (z : E). StepAnswer a p z o o′ t t′) (sym (ap (λ (m : ℕ). stepOf m look y e) h ∙ q)) (kept-step a p x o o′ t t′ k)
 
@@ -53,6 +67,6 @@ no-number n m h = go (eqb n m) refl
     go true e = absurd (h (eqb-eq n m e))
     go false e = e
 
-pub other-step : (n : ℕ) → (n ≡ 1 → ⊥) → (n ≡ 2 → ⊥) → (n ≡ 3 → ⊥) → (n ≡ 4 → ⊥) → (n ≡ 5 → ⊥) → (n ≡ 6 → ⊥) → (look : Table Bytes) (y : ℕ) (e : E) → stepOf n look y e ≡ e
+pub other-step : (n : ℕ) → (n ≡ 7 → ⊥) → (n ≡ 1 → ⊥) → (n ≡ 2 → ⊥) → (n ≡ 3 → ⊥) → (n ≡ 4 → ⊥) → (n ≡ 5 → ⊥) → (n ≡ 6 → ⊥) → (look : Table Bytes) (y : ℕ) (e : E) → stepOf n look y e ≡ e
 unfolding stepOf
-other-step n a g b c d f look y e = rw (no-number n 1 a, no-number n 3 b, no-number n 4 c, no-number n 5 d, no-number n 6 f, no-number n 2 g)
+other-step n z a g b c d f look y e = rw (no-number n 1 a, no-number n 3 b, no-number n 4 c, no-number n 5 d, no-number n 6 f, no-number n 2 g, no-number n 7 z)

@@ -15,18 +15,20 @@ use Rattle.grammar.specs.Refusals.{zeroCount}
 use Rattle.rows.specs.Rows.{At, Inside}
 use Rattle.skipper.specs.Lends.{Given}
 use Rattle.skipper.specs.Skips.{Settles}
+use Rattle.restorer.specs.Lends as restorer
+use Rattle.restorer.specs.Lends.{Marked}
 use Rattle.writing.specs.Writes.{Fits, Areas, stored}
 use Rattle.writing.specs.Keeps.{Kept}
 use Rattle.writing.specs.declared.Place.{Place}
 use Rattle.writing.specs.declared.Wrote.{Wrote}
 use Rattle.writing.specs.declared.Wrote.the-variants.{Done, Full}
 
--- steps 1 to 6, and for any other number nothing is changed. Skip reads its lists in the table as given, `look`
+-- steps 1 to 7. Skip reads its lists in the table as given, restore looks into the table that it is put on: that is `look`. Any other number changes nothing
 unfoldable pub stepOf : ℕ → (look : Table Bytes) → ℕ → E → E
 stepOf n look type e =
     cond (eqb n 1) (rotate e)
     (cond (eqb n 3) (unroll e)
-    (cond (eqb n 4) (concatenate type e) (cond (eqb n 5) (factor type e) (cond (eqb n 6) (list e) (cond (eqb n 2) (skipTo look type e) e)))))
+    (cond (eqb n 4) (concatenate type e) (cond (eqb n 5) (factor type e) (cond (eqb n 6) (list e) (cond (eqb n 2) (skipTo look type e) (cond (eqb n 7) (restore look e) e))))))
 
 -- rotate, concatenate, factor and list cannot grow
 abbrev pub grows : ℕ → Bool
@@ -42,20 +44,25 @@ pub record Lent (t : Table Span) (rs ws : List ℕ) : Type 0 where
   pub rules : ruleWords t ≡ rs
   pub rows : rowWords t ≡ ws
 
--- what a step asks of the tree r of a rule: unroll, that no count is 0; skip, that the marks settle the lists of the loops of an Atomic rule
-pub record Asks (step type : ℕ) (rs₀ ws₀ : List ℕ) (text₀ : Bytes) (marks : List ℕ) (text : Bytes) (r : Expr Span) : Type 0 where
+-- what a step asks of the tree r of a rule: unroll, that no count is 0; skip, that the marks settle the lists of the loops of an Atomic rule;
+-- restore, that it looks into the very table that it reads, which the marks settle
+pub record Asks (step type : ℕ) (rs₀ ws₀ : List ℕ) (text₀ : Bytes) (marks ws : List ℕ) (text : Bytes) (r : Expr Span) : Type 0 where
   pub counts : step ≡ 3 → anyNode zeroCount r ≡ false
   pub given : step ≡ 2 → Given rs₀ ws₀ text₀ marks
   pub settles : step ≡ 2 → type ≡ 2 → (gs : Table Span) → Lent gs rs₀ ws₀ → Settles (resolveTable text₀ gs) marks (resolve text r)
+  pub marked : step ≡ 7 → Marked rs₀ ws text marks
+  pub known : step ≡ 7 → restorer.Settles rs₀ ws text marks
+  pub same-rows : step ≡ 7 → ws₀ ≡ ws
+  pub same-text : step ≡ 7 → text₀ ≡ text
 
-abbrev pub AsksAll : (step : ℕ) (rs₀ ws₀ : List ℕ) (text₀ : Bytes) (marks : List ℕ) (text : Bytes) → Table Span → Type 0
-AsksAll step rs₀ ws₀ text₀ marks text [] = Unit {0}
-AsksAll step rs₀ ws₀ text₀ marks text (r ∷ t) = Asks step (r .type) rs₀ ws₀ text₀ marks text (r .body) × AsksAll step rs₀ ws₀ text₀ marks text t
+abbrev pub AsksAll : (step : ℕ) (rs₀ ws₀ : List ℕ) (text₀ : Bytes) (marks ws : List ℕ) (text : Bytes) → Table Span → Type 0
+AsksAll step rs₀ ws₀ text₀ marks ws text [] = Unit {0}
+AsksAll step rs₀ ws₀ text₀ marks ws text (r ∷ t) = Asks step (r .type) rs₀ ws₀ text₀ marks ws text (r .body) × AsksAll step rs₀ ws₀ text₀ marks ws text t
 
 -- a step that cannot grow asks that the tree fits
 pub record Prepared (step type : ℕ) (rs₀ ws₀ : List ℕ) (text₀ : Bytes) (marks ws : List ℕ) (text : Bytes) (root : ℕ) (p : Place) (o t : List ℕ) : Type 0 where
   pub fits : grows step ≡ false → (r : Expr Span) → At ws root r → Fits p (resolve text r) o t
-  pub asks : (r : Expr Span) → At ws root r → Asks step type rs₀ ws₀ text₀ marks text r
+  pub asks : (r : Expr Span) → At ws root r → Asks step type rs₀ ws₀ text₀ marks ws text r
 
 -- a name's bytes s at p
 pub record NamePut (q p : Place) (s t t′ : List ℕ) : Type 0 where
@@ -84,7 +91,7 @@ pub record RulePrepared (step type : ℕ) (rs₀ ws₀ : List ℕ) (text₀ : By
   pub table : Table Span
   pub lent : Lent table rs₀ ws₀
   pub fits : grows step ≡ false → (r : Expr Span) → At ws root r → RuleFits p s (resolve text r) o t
-  pub asks : (r : Expr Span) → At ws root r → Asks step type rs₀ ws₀ text₀ marks text r
+  pub asks : (r : Expr Span) → At ws root r → Asks step type rs₀ ws₀ text₀ marks ws text r
 
 -- the rule's name and its packed tree stand from p to q, and its words at rule i; past that the areas of rows and text hold anything
 pub record RuleKept (q p : Place) (i y : ℕ) (s : Bytes) (e : E) (os os′ o o′ t t′ : List ℕ) : Type 0 where
@@ -118,7 +125,7 @@ pub record Passing (step : ℕ) (rs₀ ws₀ : List ℕ) (text₀ : Bytes) (mark
   pub table : Table Span
   pub holds : Holds table rs ws text
   pub fits : grows step ≡ false → TableFits (resolveTable text table) os o s
-  pub asks : AsksAll step rs₀ ws₀ text₀ marks text table
+  pub asks : AsksAll step rs₀ ws₀ text₀ marks ws text table
 
 -- the packed table t stands at the front of three areas, up to q
 pub record Front (q : Place) (t : Table Bytes) (os o s : List ℕ) : Type 0 where

@@ -55,6 +55,7 @@ pub fn walk(
         4 => concatenator::concatenate(rows, text, root, kind, out, lits, p),
         5 => factorizer::factor(rows, text, root, kind, out, lits, p),
         6 => lister::list(rows, text, root, out, lits, p),
+        7 => restorer::restore(heads0, marks, rows, text, root, out, lits, p),
         _ => writing::copy(rows, text, root, out, lits, p),
     }
 }

@@ -1,6 +1,6 @@
-use mathlib.Core.Path.{refl, sym}
-use Rattle.passes.proofs.Walks.{ready-for, counted-for, given-for, settling-for, settles-for, kept-by, exact-by, other-step}
-use Rattle.passes.proofs.Growth.{step-one, step-two, step-three, step-four, step-five, step-six}
+use mathlib.Core.Path.{refl, sym, _∙_}
+use Rattle.passes.proofs.Walks.{ready-for, counted-for, given-for, settling-for, settles-for, marked-for, known-for, lent-for, look-for, kept-by, exact-by, other-step}
+use Rattle.passes.proofs.Growth.{step-one, step-two, step-three, step-four, step-five, step-six, step-seven}
 use borrow.Author.Needs.{needs}
 use Rattle.passes.proofs.walk.Statement.{statement}
 use Rattle.passes.proofs.walk.Tie as tie
@@ -50,6 +50,12 @@ list-requires : tie.Need-list-requires
 list-requires c κs =
     let s = c .before .before .before .before .before .before .before .before .before .before .before in
     (s .pre .0, (ready-for (s .pre .1 .0) (s .pre .1 .1 .1) 6 (c .before .before .match .keys6) refl, s .pre .1 .1 .0 .areas))
+
+restore-requires : tie.Need-restore-requires
+restore-requires c κs =
+    let s = c .before .before .before .before .before .before .before .before .before .before .before in
+    let h = c .before .before .match .keys7 in
+    (marked-for (s .pre .1 .0) (s .pre .1 .1 .1) h, (known-for (s .pre .1 .0) (s .pre .1 .1 .1) h, (s .pre .1 .0, s .pre .1 .1 .0)))
 
 -- src/lib.rt:58:14
 copy-requires : tie.Need-copy-requires
@@ -141,8 +147,20 @@ same-length-14 c = search needs
 -- src/lib.rt:19:1
 returns-7 : tie.Need-returns-7
 returns-7 c = λ gs r g a.
+    let s = c .before .before .before .before .before .before .before .before .before .before .before .before .before .before .before .before in
+    let h = c .before .before .before .before .before .before .before .match .keys7 in
+    exact-by (c .before .before .before .before .restore .result) _ 7 _ _ _ _ _ _ _ _ h (step-seven _ _ _ ∙ look-for (s .pre .1 .0) (s .pre .1 .1 .1) h gs _) (c .before .before .before .before .restore .ensures gs r (lent-for (s .pre .1 .0) (s .pre .1 .1 .1) h gs g) a)
+
+same-length-15 : tie.Need-same-length-15
+same-length-15 c = search needs
+
+same-length-16 : tie.Need-same-length-16
+same-length-16 c = search needs
+
+returns-8 : tie.Need-returns-8
+returns-8 c = λ gs r g a.
     let n = c .before .before .before .before .before .before .before .match .rest in
-    exact-by (c .before .before .before .before .copy .result) _ _ _ _ _ _ _ _ _ _ refl (other-step _ (n .0 .0 .0 .0 .0 .1) (n .0 .0 .0 .0 .1) (n .0 .0 .0 .1) (n .0 .0 .1) (n .0 .1) (n .1) _ _ _) (c .before .before .before .before .copy .ensures r a)
+    exact-by (c .before .before .before .before .copy .result) _ _ _ _ _ _ _ _ _ _ refl (other-step _ (n .1) (n .0 .0 .0 .0 .0 .0 .1) (n .0 .0 .0 .0 .0 .1) (n .0 .0 .0 .0 .1) (n .0 .0 .0 .1) (n .0 .0 .1) (n .0 .1) _ _ _) (c .before .before .before .before .copy .ensures r a)
 
 pub walk-spec : {M : Type 1} → statement M
 walk-spec =
@@ -154,6 +172,7 @@ walk-spec =
     concatenate-requires
     factor-requires
     list-requires
+    restore-requires
     copy-requires
     same-length
     same-length-2
@@ -175,4 +194,7 @@ walk-spec =
     returns-6
     same-length-13
     same-length-14
-    returns-7)
+    returns-7
+    same-length-15
+    same-length-16
+    returns-8)
