@@ -1,0 +1,2 @@
+-- The chain of the seven steps, and the whole call.
+pub mod Chain

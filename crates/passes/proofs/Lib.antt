@@ -1,0 +1,6 @@
+pub mod Tables
+pub mod Answers
+pub mod Progress
+pub mod Growth
+pub mod Loops
+pub mod Walks

@@ -1,0 +1,2 @@
+-- A step on every rule of a table.
+pub mod Passes
