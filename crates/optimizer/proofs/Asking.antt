@@ -10,7 +10,7 @@ use lib.Seq.{drop-append-seam}
 use Rattle.grammar.specs.Basic.{Bytes, any, orElse}
 use Rattle.grammar.specs.Tree.{Bin, Seq, Choice, E, Expr, lit, fixed, skip, un, bin, size, anyNode}
 use Rattle.grammar.specs.Rows.{Span, flat}
-use Rattle.grammar.specs.Table.{Rule, Table, Words, ruleWords, rowWords, tableText, packedFrom, resolveTable, wordsOf}
+use Rattle.grammar.specs.Table.{Rule, Table, ruleWords, rowWords, tableText, packedFrom, resolveTable, wordsOf}
 use Rattle.grammar.specs.Text.{resolve}
 use Rattle.grammar.specs.Lists.{skipList, loopOver, asStrings}
 use Rattle.grammar.specs.Steps.{children, topDownIn, orSame, isAtomic, rotated, rotateAt, rotate, skip?, skipTo, each}
