@@ -1,2 +1,3 @@
 pub mod Fronts
 pub mod Turns
+pub mod Asking
