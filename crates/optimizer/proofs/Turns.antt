@@ -15,7 +15,7 @@ use Rattle.passes.specs.Passes.{AsksAll, Lent, Holds, Front, Passing, TableFits
 use Rattle.optimizer.specs.Chain.{Turning}
 use Rattle.optimizer.proofs.Fronts.{holds-front, front-is, front-within}
 
-holds-part : {p : Place} (t : Table Bytes) {os o s : List ℕ} (n : ℕ) → n ≡ length t * 4 → Front p t os o s → Holds (packedFrom 0 t) (take n os) (take (p .rows * 4) o) (take (p .text) s)
+pub holds-part : {p : Place} (t : Table Bytes) {os o s : List ℕ} (n : ℕ) → n ≡ length t * 4 → Front p t os o s → Holds (packedFrom 0 t) (take n os) (take (p .rows * 4) o) (take (p .text) s)
 holds-part {p} t {os} {o} {s} n e f = subst (λ (k : ℕ). Holds (packedFrom 0 t) (take k os) (take (p .rows * 4) o) (take (p .text) s)) (sym e) (holds-front t f)
 
 pub turn-passing : {step : ℕ} {rs₀ ws₀ : List ℕ} {text₀ : Bytes} {marks : List ℕ} {n : ℕ} {p : Place} {os o s os₂ o₂ s₂ : List ℕ} → Turning step rs₀ ws₀ text₀ marks n p os o s os₂ o₂ s₂ → Passing step rs₀ ws₀ text₀ marks (take n os) (take (p .rows * 4) o) (take (p .text) s) os₂ o₂ s₂

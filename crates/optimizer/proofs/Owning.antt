@@ -1,0 +1,84 @@
+-- A step on a packed table that looks into that table alone, and its marks. Assumes nothing.
+use mathlib.Core.Path.{_≡_, refl, sym, ap, ap₂, _∙_, subst}
+use mathlib.Core.List.{List}
+use Prim.Native.Nat.{ℕ, _*_, _/_, _^_, _≤_, _<_}
+use native.Mathlib.Omega.{arith}
+use lib.ListN.{length, take, length-take}
+use Rattle.grammar.specs.Basic.{Bytes}
+use Rattle.grammar.specs.Rows.{Span}
+use Rattle.grammar.specs.Table.{Table, packedFrom, resolveTable}
+use Rattle.grammar.specs.Steps.{each}
+use Rattle.names.specs.Names.{NamesInside, withHashes}
+use Rattle.names.proofs.Marks.{hashed}
+use Rattle.writing.specs.declared.Place.{Place}
+use Rattle.writing.specs.declared.Wrote.{Wrote}
+use Rattle.restorer.specs.Lends.{Marked}
+use Rattle.passes.specs.Passes.{stepOf, Asks, AsksAll, Lent, Holds, Front, Passing, TableFits, PassAnswer}
+use Rattle.optimizer.specs.Chain.{Sized, Works, Stands, Restorable, Owns, after}
+use Rattle.optimizer.proofs.Fronts.{front-is, front-within}
+use Rattle.optimizer.proofs.Turns.{holds-part}
+use Rattle.optimizer.proofs.Asking.{asks-all}
+use Rattle.optimizer.proofs.Sizes.{sized-room, front-few, front-fine, count-after}
+
+pub stands-within : {n : ℕ} {q : Place} {os o s : List ℕ} → Stands n q os o s → (n ≤ length os) × (q .rows * 4 ≤ length o) × (q .text ≤ length s)
+stands-within k = let w = front-within (k .table) (k .front) in (omega (arith, w .0, k .count), w .1, w .2)
+
+pub stands-holds : {n : ℕ} {q : Place} {os o s : List ℕ} (k : Stands n q os o s) → Holds (packedFrom 0 (k .table)) (take n os) (take (q .rows * 4) o) (take (q .text) s)
+stands-holds {n} k = holds-part (k .table) n (k .count) (k .front)
+
+own-asks : {step n : ℕ} {q : Place} {os o s marks : List ℕ} → Owns step n q os o s marks → (t : Table Span) → let rs = take n os in let ws = take (q .rows * 4) o in let text = take (q .text) s in AsksAll step rs ws text marks ws text t
+own-asks w t =
+    asks-all
+    (λ r.
+    record {
+      counts = λ e. absurd (w .no-counts e);
+      given = λ e. absurd (w .no-lists e);
+      settles = λ e. absurd (w .no-lists e);
+      marked = λ e. w .restores e .marked;
+      known = λ e. w .restores e .settles;
+      same-rows = λ e. refl;
+      same-text = λ e. refl;
+    })
+    t
+
+pub own-passing : {step n : ℕ} {q : Place} {os o s marks os₂ o₂ s₂ : List ℕ} (k : Stands n q os o s) → Owns step n q os o s marks → Works os o s os₂ o₂ s₂ → let rs = take n os in let ws = take (q .rows * 4) o in let text = take (q .text) s in Passing step rs ws text marks rs ws text os₂ o₂ s₂
+own-passing {step} {n} {q} {os} {o} {s} {marks} {os₂} {o₂} {s₂} k w z =
+    let h = stands-holds k in
+    let t : Table Bytes = k .table in
+    record {
+      given = packedFrom 0 t;
+      lent = record { rules = h .rules; rows = h .rows };
+      table = packedFrom 0 t;
+      holds = h;
+      fits = λ _. subst (λ (x : Table Bytes). TableFits x os₂ o₂ s₂) (sym (front-is t (k .front))) (sized-room t (z .other) (front-few t (z .one) (k .front)) (front-fine t (z .one) (k .front)));
+      asks = own-asks w (packedFrom 0 t);
+    }
+
+pub own-few : {n : ℕ} {q : Place} {os o s os₂ o₂ s₂ : List ℕ} → Stands n q os o s → Works os o s os₂ o₂ s₂ → length (take n os) ≤ length os₂
+own-few {n} {q} {os} k z = omega (arith, length-take n os, z .one .rules, z .other .rules, stands-within k .0)
+
+pub own-answer : (a : Wrote) (step : ℕ) {q : Place} (t : Table Bytes) {os o s : List ℕ} (n : ℕ) (os₂ o₂ s₂ os′ o′ s′ : List ℕ) → Front q t os o s → n ≡ length t * 4 → (Lent (packedFrom 0 t) (take n os) (take (q .rows * 4) o) → Holds (packedFrom 0 t) (take n os) (take (q .rows * 4) o) (take (q .text) s) → let u = resolveTable (take (q .text) s) (packedFrom 0 t) in PassAnswer a (each (stepOf step u) u) os₂ o₂ s₂ os′ o′ s′) → PassAnswer a (after step t t) os₂ o₂ s₂ os′ o′ s′
+own-answer a step t n os₂ o₂ s₂ os′ o′ s′ f e p =
+    let h = holds-part t n e f in
+    subst (λ (x : Table Bytes). PassAnswer a (each (stepOf step x) x) os₂ o₂ s₂ os′ o′ s′) (front-is t f) (p (record { rules = h .rules; rows = h .rows }) h)
+
+-- with the hashes of its names
+pub stands-marked : {n : ℕ} {q : Place} {os o s : List ℕ} (m : List ℕ) {m′ : List ℕ} → Stands n q os o s → n ≤ length m → m′ ≡ withHashes (take n os) (take (q .text) s) m → Marked (take n os) (take (q .rows * 4) o) (take (q .text) s) m′
+stands-marked {n} {q} {os} {o} {s} m {m′} k l e =
+    let h = stands-holds k in
+    record {
+      table = packedFrom 0 (k .table);
+      lent = record { heads = h .rules; trees = h .rows };
+      inside = h .inside;
+      hashed = rw e (hashed (take n os) (take (q .text) s) m (h .names) (omega (arith, l, length-take n os)));
+    }
+
+-- steps 6 and 7
+pub owns-six : {n : ℕ} {q : Place} {os o s marks : List ℕ} → Owns 6 n q os o s marks
+owns-six = record { no-lists = λ e. omega (arith, e); no-counts = λ e. omega (arith, e); restores = λ e. absurd (omega (arith, e)) }
+
+pub owns-seven : {n : ℕ} {q : Place} {os o s marks : List ℕ} → Restorable n q os o s marks → Owns 7 n q os o s marks
+owns-seven r = record { no-lists = λ e. omega (arith, e); no-counts = λ e. omega (arith, e); restores = λ e. r }
+
+pub stands-after : (step : ℕ) {n : ℕ} {p q : Place} {os o s os′ o′ s′ : List ℕ} (k : Stands n p os o s) → Front q (after step (k .table) (k .table)) os′ o′ s′ → Stands n q os′ o′ s′
+stands-after step {n} k f = record { table = after step (k .table) (k .table); front = f; count = count-after step n (k .table) (k .table) (k .count) }

@@ -1,0 +1,54 @@
+-- The whole call: its answer as the caller sees it. Assumes nothing.
+use mathlib.Core.Path.{_≡_}
+use mathlib.Core.Bool.{false}
+use mathlib.Core.List.{List}
+use Prim.Native.Nat.{ℕ, _≤_, _<_, _^_}
+use lib.ListN.{length}
+use Rattle.grammar.specs.Basic.{Bytes}
+use Rattle.grammar.specs.Rows.{Span}
+use Rattle.grammar.specs.Table.{Table, Words, resolveTable}
+use Rattle.grammar.specs.Refusals.{zeroCounts, meets}
+use Rattle.grammar.specs.Optimize as grammar
+use Rattle.writing.specs.declared.Place.{Place}
+use Rattle.skipper.specs.Lends.{Given}
+use Rattle.skipper.specs.Lists.{Lists}
+use Rattle.passes.specs.Passes.{Lent}
+use Rattle.optimizer.specs.declared.Answer.{Answer}
+
+-- the answer by value and the output areas afterwards
+abbrev pub seen : Answer → Words → grammar.Answer
+seen r out = record { number = r .number; rules = r .rules; rows = r .rows; text = r .text; report = r .report; out = out }
+
+-- areas of full size or more
+pub record AtLeast (os o s : List ℕ) : Type 0 where
+  pub rules : 1024 ≤ length os
+  pub rows : 16384 ≤ length o
+  pub text : 65536 ≤ length s
+
+-- the outputs, both work tables and the marks
+pub record Lengths (os o s os₁ o₁ s₁ os₂ o₂ s₂ marks : List ℕ) : Type 0 where
+  pub out : AtLeast os o s
+  pub one : AtLeast os₁ o₁ s₁
+  pub other : AtLeast os₂ o₂ s₂
+  pub marked : 1024 ≤ length marks
+
+-- counts that a word holds
+pub record Small (count n n1 n2 n3 n4 n5 n6 : ℕ) (p : Place) : Type 0 where
+  pub rules : count < 2 ^ 32
+  pub first : n < 2 ^ 32
+  pub second : n1 < 2 ^ 32
+  pub third : n2 < 2 ^ 32
+  pub fourth : n3 < 2 ^ 32
+  pub fifth : n4 < 2 ^ 32
+  pub sixth : n5 < 2 ^ 32
+  pub seventh : n6 < 2 ^ 32
+  pub rows : p .rows < 2 ^ 32
+  pub text : p .text < 2 ^ 32
+
+-- a table past refusal 7, with the marks that settle its skip lists
+pub record Readable (rules rows : List ℕ) (text : Bytes) (marks : List ℕ) : Type 0 where
+  pub given : Given rules rows text marks
+  pub few : length rules ≤ 1024
+  pub short : length rows ≤ 16384
+  pub zeros : (t : Table Span) → Lent t rules rows → zeroCounts (resolveTable text t) ≡ false
+  pub lists : (t : Table Span) → Lent t rules rows → Lists (resolveTable text t) marks
