@@ -1,4 +1,4 @@
-use mathlib.Core.Path.{_∙_}
+use mathlib.Core.Path.{_∙_, refl}
 use Rattle.grammar.specs.Table.{resolveTable}
 use Rattle.grammar.specs.Refusals.{tooLarge}
 use Rattle.grammar.specs.Optimize.{lastOf}
@@ -27,31 +27,31 @@ enum-told c = search needs
 
 -- src/lib.rt:323:9
 same-length : tie.Need-same-length
-same-length c = search needs
+same-length c = refl
 
 -- src/lib.rt:323:9
 same-length-2 : tie.Need-same-length-2
-same-length-2 c = search needs
+same-length-2 c = c .before .before .before .before .before .before .before .before .before .before .before .before .before .before .first-five .kept .1 .1 .1 .1 .0
 
 -- src/lib.rt:323:9
 same-length-3 : tie.Need-same-length-3
-same-length-3 c = search needs
+same-length-3 c = c .before .before .before .before .before .before .before .before .before .before .before .before .before .before .first-five .kept .1 .1 .1 .1 .1 .0
 
 -- src/lib.rt:323:9
 same-length-4 : tie.Need-same-length-4
-same-length-4 c = search needs
+same-length-4 c = c .before .before .before .before .before .before .before .before .before .before .before .before .before .before .first-five .kept .1 .1 .1 .1 .1 .1 .0
 
 -- src/lib.rt:323:9
 same-length-5 : tie.Need-same-length-5
-same-length-5 c = search needs
+same-length-5 c = c .before .before .before .before .before .before .before .before .before .before .before .before .before .before .first-five .kept .1 .1 .1 .1 .1 .1 .1 .0
 
 -- src/lib.rt:323:9
 same-length-6 : tie.Need-same-length-6
-same-length-6 c = search needs
+same-length-6 c = c .before .before .before .before .before .before .before .before .before .before .before .before .before .before .first-five .kept .1 .1 .1 .1 .1 .1 .1 .1 .0
 
 -- src/lib.rt:323:9
 same-length-7 : tie.Need-same-length-7
-same-length-7 c = search needs
+same-length-7 c = c .before .before .before .before .before .before .before .before .before .before .before .before .before .before .first-five .kept .1 .1 .1 .1 .1 .1 .1 .1 .1 .0
 
 -- src/lib.rt:323:9
 returns : tie.Need-returns
@@ -82,7 +82,7 @@ enum-told-2 c = search needs
 
 -- src/lib.rt:336:9
 same-length-8 : tie.Need-same-length-8
-same-length-8 c = search needs
+same-length-8 c = c .before .before .before .before .before .before .before .before .before .before .before .before .before .before .before .before .last-two .kept .0
 
 -- src/lib.rt:336:9
 same-length-9 : tie.Need-same-length-9
@@ -90,23 +90,23 @@ same-length-9 c = c .before .before .before .before .before .before .before .bef
 
 -- src/lib.rt:336:9
 same-length-10 : tie.Need-same-length-10
-same-length-10 c = search needs
+same-length-10 c = c .before .before .before .before .before .before .before .before .before .before .before .before .before .before .before .before .last-two .kept .1 .1 .1 .1 .0 ∙ c .before .before .before .before .before .before .before .before .before .before .before .before .before .before .before .before .before .before .before .before .before .before .before .before .before .before .before .before .before .before .before .before .before .before .before .before .before .before .before .first-five .kept .1 .1 .1 .1 .1 .0
 
 -- src/lib.rt:336:9
 same-length-11 : tie.Need-same-length-11
-same-length-11 c = search needs
+same-length-11 c = c .before .before .before .before .before .before .before .before .before .before .before .before .before .before .before .before .last-two .kept .1 .1 .1 .1 .1 .0 ∙ c .before .before .before .before .before .before .before .before .before .before .before .before .before .before .before .before .before .before .before .before .before .before .before .before .before .before .before .before .before .before .before .before .before .before .before .before .before .before .before .first-five .kept .1 .1 .1 .1 .1 .1 .0
 
 -- src/lib.rt:336:9
 same-length-12 : tie.Need-same-length-12
-same-length-12 c = search needs
+same-length-12 c = c .before .before .before .before .before .before .before .before .before .before .before .before .before .before .before .before .last-two .kept .1 .1 .1 .1 .1 .1 .0 ∙ c .before .before .before .before .before .before .before .before .before .before .before .before .before .before .before .before .before .before .before .before .before .before .before .before .before .before .before .before .before .before .before .before .before .before .before .before .before .before .before .first-five .kept .1 .1 .1 .1 .1 .1 .1 .0
 
 -- src/lib.rt:336:9
 same-length-13 : tie.Need-same-length-13
-same-length-13 c = search needs
+same-length-13 c = c .before .before .before .before .before .before .before .before .before .before .before .before .before .before .before .before .last-two .kept .1 .1 .1 .1 .1 .1 .1 .0 ∙ c .before .before .before .before .before .before .before .before .before .before .before .before .before .before .before .before .before .before .before .before .before .before .before .before .before .before .before .before .before .before .before .before .before .before .before .before .before .before .before .first-five .kept .1 .1 .1 .1 .1 .1 .1 .1 .0
 
 -- src/lib.rt:336:9
 same-length-14 : tie.Need-same-length-14
-same-length-14 c = search needs
+same-length-14 c = c .before .before .before .before .before .before .before .before .before .before .before .before .before .before .before .before .last-two .kept .1 .1 .1 .1 .1 .1 .1 .1 .0 ∙ c .before .before .before .before .before .before .before .before .before .before .before .before .before .before .before .before .before .before .before .before .before .before .before .before .before .before .before .before .before .before .before .before .before .before .before .before .before .before .before .first-five .kept .1 .1 .1 .1 .1 .1 .1 .1 .1 .0
 
 -- src/lib.rt:336:9
 returns-2 : tie.Need-returns-2
@@ -122,7 +122,7 @@ returns-2 c =
 
 -- src/lib.rt:294:1
 same-length-15 : tie.Need-same-length-15
-same-length-15 c = search needs
+same-length-15 c = c .before .before .before .before .before .before .before .before .before .before .before .before .before .before .before .before .before .last-two .kept .0
 
 -- src/lib.rt:294:1
 same-length-16 : tie.Need-same-length-16
@@ -142,11 +142,11 @@ same-length-19 c = c .before .before .before .before .before .before .before .be
 
 -- src/lib.rt:294:1
 same-length-20 : tie.Need-same-length-20
-same-length-20 c = search needs
+same-length-20 c = c .before .before .before .before .before .before .before .before .before .before .before .before .before .before .before .before .before .last-two .kept .1 .1 .1 .1 .1 .1 .1 .0 ∙ c .before .before .before .before .before .before .before .before .before .before .before .before .before .before .before .before .before .before .before .before .before .before .before .before .before .before .before .before .before .before .before .before .before .before .before .before .before .before .before .before .first-five .kept .1 .1 .1 .1 .1 .1 .1 .1 .0
 
 -- src/lib.rt:294:1
 same-length-21 : tie.Need-same-length-21
-same-length-21 c = search needs
+same-length-21 c = c .before .before .before .before .before .before .before .before .before .before .before .before .before .before .before .before .before .last-two .kept .1 .1 .1 .1 .1 .1 .1 .1 .0 ∙ c .before .before .before .before .before .before .before .before .before .before .before .before .before .before .before .before .before .before .before .before .before .before .before .before .before .before .before .before .before .before .before .before .before .before .before .before .before .before .before .before .first-five .kept .1 .1 .1 .1 .1 .1 .1 .1 .1 .0
 
 -- src/lib.rt:294:1
 returns-3 : tie.Need-returns-3

@@ -1,3 +1,4 @@
+use mathlib.Core.Path.{refl}
 use Rattle.optimizer.proofs.Sizes.{sized-areas, sized-same, done-front, first-turn, second-turn, first-large, second-large, pair-ran, few-after, count-after}
 use borrow.Author.Needs.{needs}
 use Rattle.optimizer.proofs.two_steps.Statement.{statement}
@@ -22,27 +23,27 @@ enum-told c = search needs
 
 -- src/lib.rt:109:9
 same-length : tie.Need-same-length
-same-length c = search needs
+same-length c = refl
 
 -- src/lib.rt:109:9
 same-length-2 : tie.Need-same-length-2
-same-length-2 c = search needs
+same-length-2 c = refl
 
 -- src/lib.rt:109:9
 same-length-3 : tie.Need-same-length-3
-same-length-3 c = search needs
+same-length-3 c = refl
 
 -- src/lib.rt:109:9
 same-length-4 : tie.Need-same-length-4
-same-length-4 c = search needs
+same-length-4 c = c .before .before .before .before .before .before .before .before .turn .kept .1 .1 .1 .1 .1 .1 .1 .1 .1 .1 .0
 
 -- src/lib.rt:109:9
 same-length-5 : tie.Need-same-length-5
-same-length-5 c = search needs
+same-length-5 c = c .before .before .before .before .before .before .before .before .turn .kept .1 .1 .1 .1 .1 .1 .1 .1 .1 .1 .1 .0
 
 -- src/lib.rt:109:9
 same-length-6 : tie.Need-same-length-6
-same-length-6 c = search needs
+same-length-6 c = c .before .before .before .before .before .before .before .before .turn .kept .1 .1 .1 .1 .1 .1 .1 .1 .1 .1 .1 .1 .0
 
 -- src/lib.rt:109:9
 returns : tie.Need-returns
@@ -68,27 +69,27 @@ enum-told-2 c = search needs
 
 -- src/lib.rt:126:9
 same-length-7 : tie.Need-same-length-7
-same-length-7 c = search needs
+same-length-7 c = c .before .before .before .before .before .before .before .before .turn2 .kept .1 .1 .1 .1 .1 .1 .1 .1 .1 .1 .0
 
 -- src/lib.rt:126:9
 same-length-8 : tie.Need-same-length-8
-same-length-8 c = search needs
+same-length-8 c = c .before .before .before .before .before .before .before .before .turn2 .kept .1 .1 .1 .1 .1 .1 .1 .1 .1 .1 .1 .0
 
 -- src/lib.rt:126:9
 same-length-9 : tie.Need-same-length-9
-same-length-9 c = search needs
+same-length-9 c = c .before .before .before .before .before .before .before .before .turn2 .kept .1 .1 .1 .1 .1 .1 .1 .1 .1 .1 .1 .1 .0
 
 -- src/lib.rt:126:9
 same-length-10 : tie.Need-same-length-10
-same-length-10 c = search needs
+same-length-10 c = c .before .before .before .before .before .before .before .before .before .before .before .before .before .before .before .before .before .before .before .before .before .before .before .before .turn .kept .1 .1 .1 .1 .1 .1 .1 .1 .1 .1 .0
 
 -- src/lib.rt:126:9
 same-length-11 : tie.Need-same-length-11
-same-length-11 c = search needs
+same-length-11 c = c .before .before .before .before .before .before .before .before .before .before .before .before .before .before .before .before .before .before .before .before .before .before .before .before .turn .kept .1 .1 .1 .1 .1 .1 .1 .1 .1 .1 .1 .0
 
 -- src/lib.rt:126:9
 same-length-12 : tie.Need-same-length-12
-same-length-12 c = search needs
+same-length-12 c = c .before .before .before .before .before .before .before .before .before .before .before .before .before .before .before .before .before .before .before .before .before .before .before .before .turn .kept .1 .1 .1 .1 .1 .1 .1 .1 .1 .1 .1 .1 .0
 
 -- src/lib.rt:126:9
 returns-2 : tie.Need-returns-2
@@ -101,27 +102,27 @@ returns-2 c =
 
 -- src/lib.rt:75:1
 same-length-13 : tie.Need-same-length-13
-same-length-13 c = search needs
+same-length-13 c = c .before .before .before .before .before .before .before .before .before .turn2 .kept .1 .1 .1 .1 .1 .1 .1 .1 .1 .1 .0
 
 -- src/lib.rt:75:1
 same-length-14 : tie.Need-same-length-14
-same-length-14 c = search needs
+same-length-14 c = c .before .before .before .before .before .before .before .before .before .turn2 .kept .1 .1 .1 .1 .1 .1 .1 .1 .1 .1 .1 .0
 
 -- src/lib.rt:75:1
 same-length-15 : tie.Need-same-length-15
-same-length-15 c = search needs
+same-length-15 c = c .before .before .before .before .before .before .before .before .before .turn2 .kept .1 .1 .1 .1 .1 .1 .1 .1 .1 .1 .1 .1 .0
 
 -- src/lib.rt:75:1
 same-length-16 : tie.Need-same-length-16
-same-length-16 c = search needs
+same-length-16 c = c .before .before .before .before .before .before .before .before .before .before .before .before .before .before .before .before .before .before .before .before .before .before .before .before .before .turn .kept .1 .1 .1 .1 .1 .1 .1 .1 .1 .1 .0
 
 -- src/lib.rt:75:1
 same-length-17 : tie.Need-same-length-17
-same-length-17 c = search needs
+same-length-17 c = c .before .before .before .before .before .before .before .before .before .before .before .before .before .before .before .before .before .before .before .before .before .before .before .before .before .turn .kept .1 .1 .1 .1 .1 .1 .1 .1 .1 .1 .1 .0
 
 -- src/lib.rt:75:1
 same-length-18 : tie.Need-same-length-18
-same-length-18 c = search needs
+same-length-18 c = c .before .before .before .before .before .before .before .before .before .before .before .before .before .before .before .before .before .before .before .before .before .before .before .before .before .turn .kept .1 .1 .1 .1 .1 .1 .1 .1 .1 .1 .1 .1 .0
 
 -- src/lib.rt:75:1
 returns-3 : tie.Need-returns-3

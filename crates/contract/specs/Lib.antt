@@ -1,0 +1,2 @@
+-- What the contract of the whole call rules out.
+pub mod Programs
