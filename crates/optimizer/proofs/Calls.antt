@@ -32,9 +32,9 @@ use Rattle.refusals.proofs.Answers.{call-refused, call-passed}
 use Rattle.refusals.proofs.Fours.{neither-left, neither-right}
 use Rattle.passes.specs.Passes.{Lent}
 use Rattle.passes.proofs.Progress.{rows-length}
-use Rattle.optimizer.specs.Chain.{Sized, Ready, Works}
+use Rattle.turns.specs.Chain.{Sized, Ready, Works}
 use Rattle.optimizer.specs.Entry.{AtLeast, Lengths, Readable}
-use Rattle.optimizer.proofs.Asking.{unique-table}
+use Rattle.turns.proofs.Asking.{unique-table}
 use Rattle.optimizer.proofs.Finishing.{resolved-count}
 
 -- refusal 1

@@ -23,15 +23,15 @@ use Rattle.passes.specs.Passes.{Lent, Front, stepOf}
 use Rattle.passes.proofs.Tables.{each-length}
 use Rattle.passes.proofs.Progress.{rows-length}
 use Rattle.packing.specs.Packing.{Covers}
-use Rattle.optimizer.specs.Chain.{Sized, Ready, Ran, SevenAnswer, after, firstFive, lastTwo, allSeven}
+use Rattle.turns.specs.Chain.{Sized, Ready, Ran, SevenAnswer, after, firstFive, lastTwo, allSeven}
 use Rattle.optimizer.specs.Entry.{seen, AtLeast, Small}
 use Rattle.optimizer.specs.declared.Answer.{Answer}
-use Rattle.optimizer.specs.declared.Seven.{Seven}
-use Rattle.optimizer.specs.declared.Seven.the-variants as seven
-use Rattle.optimizer.proofs.Fronts.{front-within}
-use Rattle.optimizer.proofs.Asking.{stages-seven}
-use Rattle.optimizer.proofs.Sizes.{front-fine}
-use Rattle.optimizer.proofs.Runs.{fifth-count}
+use Rattle.turns.specs.declared.Seven.{Seven}
+use Rattle.turns.specs.declared.Seven.the-variants as seven
+use Rattle.turns.proofs.Fronts.{front-within}
+use Rattle.turns.proofs.Asking.{stages-seven}
+use Rattle.turns.proofs.Sizes.{front-fine}
+use Rattle.turns.proofs.Runs.{fifth-count}
 
 pub seven-done : {a : Seven} {i j k l m n : ℕ} {q : Place} (ts : List (Table Bytes)) (os o s : List ℕ) → a ≡ seven.Done i j k l m n q → SevenAnswer a ts os o s → Ran (i ∷ j ∷ k ∷ l ∷ m ∷ n ∷ q .rows ∷ []) q ts os o s
 seven-done ts os o s e h = subst (λ (a : Seven). SevenAnswer a ts os o s) e h

@@ -1,8 +1,2 @@
-pub mod Fronts
-pub mod Turns
-pub mod Asking
-pub mod Sizes
-pub mod Owning
-pub mod Runs
 pub mod Finishing
 pub mod Calls

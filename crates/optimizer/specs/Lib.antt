@@ -1,3 +1,2 @@
--- The chain of the seven steps, and the whole call.
-pub mod Chain
+-- The whole call.
 pub mod Entry

@@ -1,14 +1,14 @@
 use mathlib.Core.Path.{refl}
 use Rattle.grammar.specs.Table.{resolveTable}
-use Rattle.optimizer.proofs.Sizes.{sized-same}
-use Rattle.optimizer.proofs.Runs.{ready-lent}
+use Rattle.turns.proofs.Sizes.{sized-same}
+use Rattle.turns.proofs.Runs.{ready-lent}
 use Rattle.optimizer.proofs.Finishing.{seven-done, seven-full, steps-large, refusal-seen, ran-small, ran-covers, finished-seen, rows-before, rows-few, rules-after}
 use borrow.Author.Needs.{needs}
 use Rattle.optimizer.proofs.run.Statement.{statement}
 use Rattle.optimizer.proofs.run.Tie as tie
 use Rattle.optimizer.proofs.run.Reads as reads
 use Rattle.optimizer.proofs.run.Lts as lts
-use Rattle.optimizer.proofs.all_steps.Reads as all-steps-reads
+use Rattle.turns.proofs.all_steps.Reads as all-steps-reads
 use Rattle.optimizer.proofs.finished.Reads as finished-reads
 use Rattle.optimizer.proofs.refused.Reads as refused-reads
 use Rattle.packing.proofs.put_out.Reads as put-out-reads

@@ -21,8 +21,8 @@ use Rattle.writing.specs.declared.Wrote.{Wrote}
 use Rattle.writing.specs.declared.Wrote.the-variants.{Done, Full}
 use Rattle.passes.specs.Passes.{stepOf, AsksAll, Front, TableFits, PassAnswer}
 use Rattle.passes.proofs.Tables.{each-length}
-use Rattle.optimizer.specs.Chain.{Turning, Sized, after, Turns, Ran}
-use Rattle.optimizer.proofs.Fronts.{front-within}
+use Rattle.turns.specs.Chain.{Turning, Sized, after, Turns, Ran}
+use Rattle.turns.proofs.Fronts.{front-within}
 
 pub sized-areas : {os o s : List ℕ} → Sized os o s → Areas o s
 sized-areas z = record { words = omega (arith, z .rows); bytes = omega (arith, z .text) }

@@ -1,14 +1,14 @@
 use mathlib.Core.Path.{refl}
 use native.Mathlib.Omega.{arith}
-use Rattle.optimizer.proofs.Sizes.{sized-same, done-front, front-few, first-large, second-large, pair-ran, few-after, count-after}
-use Rattle.optimizer.proofs.Owning.{owns-six, owns-seven, stands-after}
+use Rattle.turns.proofs.Sizes.{sized-same, done-front, front-few, first-large, second-large, pair-ran, few-after, count-after}
+use Rattle.turns.proofs.Owning.{owns-six, owns-seven, stands-after}
 use borrow.Author.Needs.{needs}
-use Rattle.optimizer.proofs.last_two.Statement.{statement}
-use Rattle.optimizer.proofs.last_two.Tie as tie
-use Rattle.optimizer.proofs.last_two.Reads as reads
-use Rattle.optimizer.proofs.last_two.Lts as lts
-use Rattle.optimizer.proofs.own.Reads as own-reads
-use Rattle.optimizer.proofs.settle.Reads as settle-reads
+use Rattle.turns.proofs.last_two.Statement.{statement}
+use Rattle.turns.proofs.last_two.Tie as tie
+use Rattle.turns.proofs.last_two.Reads as reads
+use Rattle.turns.proofs.last_two.Lts as lts
+use Rattle.turns.proofs.own.Reads as own-reads
+use Rattle.turns.proofs.settle.Reads as settle-reads
 
 -- src/lib.rt:261:26
 own-requires : tie.Need-own-requires

@@ -2,16 +2,16 @@ use mathlib.Core.Path.{_∙_, refl}
 use Rattle.grammar.specs.Table.{resolveTable}
 use Rattle.grammar.specs.Refusals.{tooLarge}
 use Rattle.grammar.specs.Optimize.{lastOf}
-use Rattle.optimizer.specs.Chain.{firstFive, lastTwo}
-use Rattle.optimizer.proofs.Sizes.{sized-same}
-use Rattle.optimizer.proofs.Runs.{any-left, any-right, two-done, two-full, five-done, five-full, ready-lent, fifth-count, all-ran}
+use Rattle.turns.specs.Chain.{firstFive, lastTwo}
+use Rattle.turns.proofs.Sizes.{sized-same}
+use Rattle.turns.proofs.Runs.{any-left, any-right, two-done, two-full, five-done, five-full, ready-lent, fifth-count, all-ran}
 use borrow.Author.Needs.{needs}
-use Rattle.optimizer.proofs.all_steps.Statement.{statement}
-use Rattle.optimizer.proofs.all_steps.Tie as tie
-use Rattle.optimizer.proofs.all_steps.Reads as reads
-use Rattle.optimizer.proofs.all_steps.Lts as lts
-use Rattle.optimizer.proofs.first_five.Reads as first-five-reads
-use Rattle.optimizer.proofs.last_two.Reads as last-two-reads
+use Rattle.turns.proofs.all_steps.Statement.{statement}
+use Rattle.turns.proofs.all_steps.Tie as tie
+use Rattle.turns.proofs.all_steps.Reads as reads
+use Rattle.turns.proofs.all_steps.Lts as lts
+use Rattle.turns.proofs.first_five.Reads as first-five-reads
+use Rattle.turns.proofs.last_two.Reads as last-two-reads
 
 -- src/lib.rt:311:37
 first-five-requires : tie.Need-first-five-requires

@@ -12,8 +12,8 @@ use Rattle.grammar.specs.Steps.{each}
 use Rattle.writing.specs.declared.Place.{Place}
 use Rattle.writing.specs.declared.Wrote.{Wrote}
 use Rattle.passes.specs.Passes.{AsksAll, Lent, Holds, Front, Passing, TableFits, PassAnswer}
-use Rattle.optimizer.specs.Chain.{Turning}
-use Rattle.optimizer.proofs.Fronts.{holds-front, front-is, front-within}
+use Rattle.turns.specs.Chain.{Turning}
+use Rattle.turns.proofs.Fronts.{holds-front, front-is, front-within}
 
 pub holds-part : {p : Place} (t : Table Bytes) {os o s : List ℕ} (n : ℕ) → n ≡ length t * 4 → Front p t os o s → Holds (packedFrom 0 t) (take n os) (take (p .rows * 4) o) (take (p .text) s)
 holds-part {p} t {os} {o} {s} n e f = subst (λ (k : ℕ). Holds (packedFrom 0 t) (take k os) (take (p .rows * 4) o) (take (p .text) s)) (sym e) (holds-front t f)

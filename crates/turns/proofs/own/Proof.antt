@@ -1,12 +1,12 @@
 use mathlib.Core.Path.{sym}
 use lib.Seq.{length-take-le}
-use Rattle.optimizer.proofs.Sizes.{sized-areas}
-use Rattle.optimizer.proofs.Owning.{stands-within, own-passing, own-few, own-answer}
+use Rattle.turns.proofs.Sizes.{sized-areas}
+use Rattle.turns.proofs.Owning.{stands-within, own-passing, own-few, own-answer}
 use borrow.Author.Needs.{needs}
-use Rattle.optimizer.proofs.own.Statement.{statement}
-use Rattle.optimizer.proofs.own.Tie as tie
-use Rattle.optimizer.proofs.own.Reads as reads
-use Rattle.optimizer.proofs.own.Lts as lts
+use Rattle.turns.proofs.own.Statement.{statement}
+use Rattle.turns.proofs.own.Tie as tie
+use Rattle.turns.proofs.own.Reads as reads
+use Rattle.turns.proofs.own.Lts as lts
 use Rattle.passes.proofs.pass.Reads as pass-reads
 
 -- src/lib.rt:236:17

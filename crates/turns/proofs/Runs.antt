@@ -17,13 +17,13 @@ use Rattle.writing.specs.declared.Wrote.{Wrote}
 use Rattle.writing.specs.declared.Wrote.the-variants as wrote
 use Rattle.passes.specs.Passes.{stepOf, Lent, Holds, Front, Passing, PassAnswer}
 use Rattle.passes.proofs.Tables.{rules-length, each-length, resolve-length}
-use Rattle.optimizer.specs.Chain.{Sized, Works, Ready, Turns, Stands, Ran, TwoAnswer, FiveAnswer, after, firstFive, lastTwo}
-use Rattle.optimizer.specs.declared.Two.{Two}
-use Rattle.optimizer.specs.declared.Two.the-variants as two
-use Rattle.optimizer.specs.declared.Five.{Five}
-use Rattle.optimizer.specs.declared.Five.the-variants as five
-use Rattle.optimizer.proofs.Sizes.{sized-room, front-fine, full-large}
-use Rattle.optimizer.proofs.Asking.{asks-free, asks-two, asks-three, zeros-one, zeros-two}
+use Rattle.turns.specs.Chain.{Sized, Works, Ready, Turns, Stands, Ran, TwoAnswer, FiveAnswer, after, firstFive, lastTwo}
+use Rattle.turns.specs.declared.Two.{Two}
+use Rattle.turns.specs.declared.Two.the-variants as two
+use Rattle.turns.specs.declared.Five.{Five}
+use Rattle.turns.specs.declared.Five.the-variants as five
+use Rattle.turns.proofs.Sizes.{sized-room, front-fine, full-large}
+use Rattle.turns.proofs.Asking.{asks-free, asks-two, asks-three, zeros-one, zeros-two}
 
 -- tests of a list in two parts
 pub any-left : {A : Type 0} (p : A → Bool) (xs ys : List A) → any p xs ≡ true → any p (xs ++ ys) ≡ true

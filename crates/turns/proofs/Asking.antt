@@ -27,7 +27,7 @@ use Rattle.skipper.specs.Skips as skipper
 use Rattle.skipper.specs.Lists.{Lists, unreadAt}
 use Rattle.restorer.specs.Lends.{Marked, Settles}
 use Rattle.passes.specs.Passes.{Asks, AsksAll, Lent, stepOf}
-use Rattle.optimizer.proofs.Fronts.{packed-zeros}
+use Rattle.turns.proofs.Fronts.{packed-zeros}
 
 -- what is asked of each rule, asked of a table
 pub asks-all : {step : ℕ} {rs₀ ws₀ : List ℕ} {text₀ : Bytes} {marks ws : List ℕ} {text : Bytes} → ((r : Rule Span) → Asks step (r .type) rs₀ ws₀ text₀ marks ws text (r .body)) → (t : Table Span) → AsksAll step rs₀ ws₀ text₀ marks ws text t

@@ -1,11 +1,11 @@
 use mathlib.Core.Path.{refl}
-use Rattle.optimizer.proofs.Sizes.{sized-areas, sized-same, done-front, first-turn, second-turn, first-large, second-large, pair-ran, few-after, count-after}
+use Rattle.turns.proofs.Sizes.{sized-areas, sized-same, done-front, first-turn, second-turn, first-large, second-large, pair-ran, few-after, count-after}
 use borrow.Author.Needs.{needs}
-use Rattle.optimizer.proofs.two_steps.Statement.{statement}
-use Rattle.optimizer.proofs.two_steps.Tie as tie
-use Rattle.optimizer.proofs.two_steps.Reads as reads
-use Rattle.optimizer.proofs.two_steps.Lts as lts
-use Rattle.optimizer.proofs.turn.Reads as turn-reads
+use Rattle.turns.proofs.two_steps.Statement.{statement}
+use Rattle.turns.proofs.two_steps.Tie as tie
+use Rattle.turns.proofs.two_steps.Reads as reads
+use Rattle.turns.proofs.two_steps.Lts as lts
+use Rattle.turns.proofs.turn.Reads as turn-reads
 
 -- src/lib.rt:94:26
 turn-requires : tie.Need-turn-requires

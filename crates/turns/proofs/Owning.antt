@@ -14,11 +14,11 @@ use Rattle.writing.specs.declared.Place.{Place}
 use Rattle.writing.specs.declared.Wrote.{Wrote}
 use Rattle.restorer.specs.Lends.{Marked}
 use Rattle.passes.specs.Passes.{stepOf, Asks, AsksAll, Lent, Holds, Front, Passing, TableFits, PassAnswer}
-use Rattle.optimizer.specs.Chain.{Sized, Works, Stands, Restorable, Owns, after}
-use Rattle.optimizer.proofs.Fronts.{front-is, front-within}
-use Rattle.optimizer.proofs.Turns.{holds-part}
-use Rattle.optimizer.proofs.Asking.{asks-all}
-use Rattle.optimizer.proofs.Sizes.{sized-room, front-few, front-fine, count-after}
+use Rattle.turns.specs.Chain.{Sized, Works, Stands, Restorable, Owns, after}
+use Rattle.turns.proofs.Fronts.{front-is, front-within}
+use Rattle.turns.proofs.Turns.{holds-part}
+use Rattle.turns.proofs.Asking.{asks-all}
+use Rattle.turns.proofs.Sizes.{sized-room, front-few, front-fine, count-after}
 
 pub stands-within : {n : ℕ} {q : Place} {os o s : List ℕ} → Stands n q os o s → (n ≤ length os) × (q .rows * 4 ≤ length o) × (q .text ≤ length s)
 stands-within k = let w = front-within (k .table) (k .front) in (omega (arith, w .0, k .count), w .1, w .2)

@@ -2,14 +2,14 @@ use mathlib.Core.Path.{_∙_}
 use native.Mathlib.Omega.{arith}
 use Rattle.grammar.specs.Table.{resolveTable}
 use Rattle.grammar.proofs.Logic.{or-left}
-use Rattle.optimizer.proofs.Sizes.{sized-areas, sized-same, done-front, full-large}
-use Rattle.optimizer.proofs.Runs.{second-stop, third-stop, two-done, two-full, ready-lent, ready-holds, first-count, first-few, first-passing, skip-turns, join-turns, third-count, five-ran}
+use Rattle.turns.proofs.Sizes.{sized-areas, sized-same, done-front, full-large}
+use Rattle.turns.proofs.Runs.{second-stop, third-stop, two-done, two-full, ready-lent, ready-holds, first-count, first-few, first-passing, skip-turns, join-turns, third-count, five-ran}
 use borrow.Author.Needs.{needs}
-use Rattle.optimizer.proofs.first_five.Statement.{statement}
-use Rattle.optimizer.proofs.first_five.Tie as tie
-use Rattle.optimizer.proofs.first_five.Reads as reads
-use Rattle.optimizer.proofs.first_five.Lts as lts
-use Rattle.optimizer.proofs.two_steps.Reads as two-steps-reads
+use Rattle.turns.proofs.first_five.Statement.{statement}
+use Rattle.turns.proofs.first_five.Tie as tie
+use Rattle.turns.proofs.first_five.Reads as reads
+use Rattle.turns.proofs.first_five.Lts as lts
+use Rattle.turns.proofs.two_steps.Reads as two-steps-reads
 use Rattle.passes.proofs.pass.Reads as pass-reads
 
 -- src/lib.rt:148:26

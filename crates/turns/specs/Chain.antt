@@ -15,12 +15,12 @@ use Rattle.skipper.specs.Lends.{Given}
 use Rattle.skipper.specs.Lists.{Lists}
 use Rattle.restorer.specs.Lends.{Marked, Settles}
 use Rattle.passes.specs.Passes.{AsksAll, Lent, Front, TableFits, stepOf}
-use Rattle.optimizer.specs.declared.Two.{Two}
-use Rattle.optimizer.specs.declared.Two.the-variants as two
-use Rattle.optimizer.specs.declared.Five.{Five}
-use Rattle.optimizer.specs.declared.Five.the-variants as five
-use Rattle.optimizer.specs.declared.Seven.{Seven}
-use Rattle.optimizer.specs.declared.Seven.the-variants as seven
+use Rattle.turns.specs.declared.Two.{Two}
+use Rattle.turns.specs.declared.Two.the-variants as two
+use Rattle.turns.specs.declared.Five.{Five}
+use Rattle.turns.specs.declared.Five.the-variants as five
+use Rattle.turns.specs.declared.Seven.{Seven}
+use Rattle.turns.specs.declared.Seven.the-variants as seven
 
 -- a packed table stands in front of three areas, of n words of rules, and the step is put on it
 pub record Turning (step : ℕ) (rs₀ ws₀ : List ℕ) (text₀ : Bytes) (marks : List ℕ) (n : ℕ) (p : Place) (os o s os₂ o₂ s₂ : List ℕ) : Type 0 where

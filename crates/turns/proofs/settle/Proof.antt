@@ -3,12 +3,12 @@ use Prim.Native.Nat.{_*_}
 use native.Mathlib.Omega.{arith}
 use lib.ListN.{length-take}
 use lib.Seq.{length-take-le}
-use Rattle.optimizer.proofs.Owning.{stands-within, stands-holds, stands-marked}
+use Rattle.turns.proofs.Owning.{stands-within, stands-holds, stands-marked}
 use borrow.Author.Needs.{needs}
-use Rattle.optimizer.proofs.settle.Statement.{statement}
-use Rattle.optimizer.proofs.settle.Tie as tie
-use Rattle.optimizer.proofs.settle.Reads as reads
-use Rattle.optimizer.proofs.settle.Lts as lts
+use Rattle.turns.proofs.settle.Statement.{statement}
+use Rattle.turns.proofs.settle.Tie as tie
+use Rattle.turns.proofs.settle.Reads as reads
+use Rattle.turns.proofs.settle.Lts as lts
 use Rattle.names.proofs.hash_names.Reads as hash-names-reads
 use Rattle.restorer.proofs.settle.Reads as settle-reads
 

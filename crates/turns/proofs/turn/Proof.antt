@@ -1,13 +1,13 @@
 use mathlib.Core.Path.{sym}
 use native.Mathlib.Omega.{arith}
 use lib.Seq.{length-take-le}
-use Rattle.optimizer.proofs.Fronts.{front-within}
-use Rattle.optimizer.proofs.Turns.{turn-passing, turn-answer, turn-rules}
+use Rattle.turns.proofs.Fronts.{front-within}
+use Rattle.turns.proofs.Turns.{turn-passing, turn-answer, turn-rules}
 use borrow.Author.Needs.{needs}
-use Rattle.optimizer.proofs.turn.Statement.{statement}
-use Rattle.optimizer.proofs.turn.Tie as tie
-use Rattle.optimizer.proofs.turn.Reads as reads
-use Rattle.optimizer.proofs.turn.Lts as lts
+use Rattle.turns.proofs.turn.Statement.{statement}
+use Rattle.turns.proofs.turn.Tie as tie
+use Rattle.turns.proofs.turn.Reads as reads
+use Rattle.turns.proofs.turn.Lts as lts
 use Rattle.passes.proofs.pass.Reads as pass-reads
 
 -- src/lib.rt:35:17

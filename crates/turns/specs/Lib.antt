@@ -1,0 +1,2 @@
+-- The seven steps in their order.
+pub mod Chain
