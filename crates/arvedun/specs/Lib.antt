@@ -1,0 +1,2 @@
+-- The whole call as a host sees it.
+pub mod Host
