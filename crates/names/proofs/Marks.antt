@@ -14,7 +14,7 @@ use Rattle.grammar.specs.Text.{bytesAt}
 use Rattle.grammar.proofs.Logic.{or-left, eq-sameBytes, sameBytes-eq}
 use Rattle.rows.specs.Rows.{Tells}
 use Rattle.rows.proofs.Laws.{length-part}
-use Rattle.names.specs.Names.{nameOf, rowsBefore, hashFrom, hashOf, marked, withHashes, withEnds, NamesInside, Hashed, Ended}
+use Rattle.names.specs.Names.{rowsBefore, hashFrom, hashOf, marked, withEnds, Ended}
 
 -- ---- the hash
 
@@ -58,29 +58,6 @@ module _ (f : ℕ → ℕ) (j : ℕ) where
       go : Dec (i ≡ n) → (i < n → getD (marked f j n m) (i * 4 + j) 0 ≡ f i) → getD (set (marked f j n m) (n * 4 + j) (f n)) (i * 4 + j) 0 ≡ f i
       go (yes e) ih = rw e (getD-set-same (marked f j n m) (n * 4 + j) (f n) 0 (omega (arith, length-marked n m)))
       go (no e) ih = getD-set-other (marked f j n m) (n * 4 + j) (i * 4 + j) (f n) 0 (λ q. e (omega arith)) ∙ ih (omega arith)
-
-pub hashed : (rules : List ℕ) (text : Bytes) (m : List ℕ) → NamesInside rules (length text) → length rules / 4 * 4 ≤ length m → Hashed rules text (withHashes rules text m)
-hashed rules text m h l =
-    let f : ℕ → ℕ = λ i. hashOf (nameOf rules text i) in
-    let n : ℕ = length rules / 4 in
-    record {
-      inside = h;
-      long = rw (length-marked f 0 n m) l;
-      hash = λ i b. subst-zero (withHashes rules text m) i (f i) (marked-at f 0 n m i (omega arith) l b);
-    }
-  where
-    subst-zero : (w : List ℕ) (i v : ℕ) → getD w (i * 4 + 0) 0 ≡ v → getD w (i * 4) 0 ≡ v
-    subst-zero w i v e = rw add-zero at e
-
-pub hashed-ends : (rules : List ℕ) (text : Bytes) (m : List ℕ) → Hashed rules text m → Hashed rules text (withEnds rules m)
-hashed-ends rules text m h =
-    let f : ℕ → ℕ = λ i. rowsBefore rules (suc i) in
-    let n : ℕ = length rules / 4 in
-    record {
-      inside = h .inside;
-      long = rw (length-marked f 3 n m) (h .long);
-      hash = λ i b. marked-other f 3 n m (i * 4) (λ k l e. omega arith) ∙ h .hash i b;
-    }
 
 pub ended : (rules m : List ℕ) → length rules / 4 * 4 ≤ length m → Ended rules (withEnds rules m)
 ended rules m l = record { end = λ i b. marked-at (λ k. rowsBefore rules (suc k)) 3 (length rules / 4) m i (omega arith) l b }

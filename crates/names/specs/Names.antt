@@ -34,9 +34,6 @@ abbrev pub marked : (ℕ → ℕ) → ℕ → ℕ → List ℕ → List ℕ
 marked f j zero m = m
 marked f j (suc i) m = set (marked f j i m) (i * 4 + j) (f i)
 
-abbrev pub withHashes : List ℕ → Bytes → List ℕ → List ℕ
-withHashes rules text m = marked (λ i. hashOf (nameOf rules text i)) 0 (length rules / 4) m
-
 abbrev pub withEnds : List ℕ → List ℕ → List ℕ
 withEnds rules m = marked (λ i. rowsBefore rules (suc i)) 3 (length rules / 4) m
 
@@ -44,11 +41,47 @@ withEnds rules m = marked (λ i. rowsBefore rules (suc i)) 3 (length rules / 4) 
 abbrev pub NamesInside : List ℕ → ℕ → Type 0
 NamesInside rules n = (i : ℕ) → i < length rules / 4 → getD rules (i * 4) 0 + getD rules (i * 4 + 1) 0 ≤ n
 
--- word 0 of each rule's mark is its name's hash
+-- word 2 of mark j in two halves: the first rule of bucket j, and the next rule of rule j's bucket
+abbrev pub headAt : List ℕ → ℕ → ℕ
+headAt m j = getD m (j * 4 + 2) 0 % 65536
+
+abbrev pub nextAt : List ℕ → ℕ → ℕ
+nextAt m j = getD m (j * 4 + 2) 0 / 65536
+
+abbrev pub withHead : List ℕ → ℕ → ℕ → List ℕ
+withHead m j v = set m (j * 4 + 2) (nextAt m j * 65536 + v)
+
+abbrev pub withNext : List ℕ → ℕ → ℕ → List ℕ
+withNext m j v = set m (j * 4 + 2) (v * 65536 + headAt m j)
+
+-- the bucket of rule i: there are as many as rules
+abbrev pub bucketOf : List ℕ → Bytes → ℕ → ℕ
+bucketOf rules text i = hashOf (nameOf rules text i) % (length rules / 4)
+
+-- of the numbers from k to n, v is the first in bucket b; n where there is none
+pub record Leads (bucket : ℕ → ℕ) (n b k v : ℕ) : Type 0 where
+  pub low : k ≤ v
+  pub most : v ≤ n
+  pub here : v < n → bucket v ≡ b
+  pub none : (j : ℕ) → k ≤ j → j < v → bucket j ≡ b → ⊥
+
+-- the rules from k on are in chains, each in its bucket's
+pub record Linked (bucket : ℕ → ℕ) (n k : ℕ) (marks : List ℕ) : Type 0 where
+  pub head : (b : ℕ) → b < n → Leads bucket n b k (headAt marks b)
+  pub next : (i : ℕ) → k ≤ i → i < n → Leads bucket n (bucket i) (suc i) (nextAt marks i)
+
+-- the rules from k on have their names' hashes, and are in chains
+pub record Indexed (k : ℕ) (rules : List ℕ) (text : Bytes) (marks : List ℕ) : Type 0 where
+  pub long : length rules / 4 * 4 ≤ length marks
+  pub hash : (i : ℕ) → k ≤ i → i < length rules / 4 → getD marks (i * 4) 0 ≡ hashOf (nameOf rules text i)
+  pub linked : Linked (bucketOf rules text) (length rules / 4) k marks
+
+-- word 0 of each rule's mark is its name's hash, and word 2 puts it into a chain
 pub record Hashed (rules : List ℕ) (text : Bytes) (marks : List ℕ) : Type 0 where
   pub inside : NamesInside rules (length text)
   pub long : length rules / 4 * 4 ≤ length marks
   pub hash : (i : ℕ) → i < length rules / 4 → getD marks (i * 4) 0 ≡ hashOf (nameOf rules text i)
+  pub linked : Linked (bucketOf rules text) (length rules / 4) 0 marks
 
 -- word 3 of each rule's mark is the row after its last row
 pub record Ended (rules marks : List ℕ) : Type 0 where

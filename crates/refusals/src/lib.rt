@@ -441,10 +441,10 @@ pub fn zero_counts(rows: &[u32]) -> bool
 // Refusals 5 and 6 of a table that can be read and whose names and literals are right. The marks then hold the names' hashes and the rules' ends.
 fn check_names(rules: &[u32], rows: &[u32], text: &[u8], marks: &mut [u32]) -> Verdict
     requires { ⌜ NamesInside (now rules) (length (now text)) ⌝ }
-    requires { ⌜ (length (now rules) / 4 * 4 ≤ length (now marks)) × (rowsBefore (now rules) (length (now rules) / 4) < 2 ^ 32) ⌝ }
+    requires { ⌜ (length (now rules) / 4 * 4 ≤ length (now marks)) × (length (now rules) / 4 < 65536) × (rowsBefore (now rules) (length (now rules) / 4) < 2 ^ 32) ⌝ }
     ensures { λ v. ⌜ NamesChecked v (now (rules .entry)) (now (rows .entry)) (now (text .entry)) (now (marks .exit)) ⌝ }
 {
-    names::hash_names(rules, text, marks);
+    names::index_names(rules, text, marks);
     if !names_fine(rules, text, marks) {
         return Verdict::Refused(5);
     }
@@ -456,7 +456,7 @@ fn check_names(rules: &[u32], rows: &[u32], text: &[u8], marks: &mut [u32]) -> V
 }
 
 // Refusals 2 to 6: the lowest that holds. Where none does, a table stands there, and the marks hold its names' hashes and its rules' ends.
-// Full size takes about 830,000 instructions: each row is read three times, each byte once, each pair of hashes is compared, and a literal
+// Full size takes less than 830,000 instructions: each row is read three times, each byte once, each hash compared in its bucket, and a literal
 // past a byte above 127 costs at most 64 bytes more. The worst input has 256 names of 65,000 bytes that share their text, each hashed
 // once: 64 million instructions.
 pub fn check(rules: &[u32], rows: &[u32], text: &[u8], marks: &mut [u32]) -> Verdict

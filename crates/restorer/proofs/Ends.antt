@@ -16,7 +16,8 @@ use Rattle.grammar.specs.Stack.{Reaches}
 use Rattle.grammar.proofs.Logic.{none-some, eqb-eq}
 use Rattle.names.specs.Names.{rowsBefore, marked, withEnds}
 use Rattle.names.proofs.Finding.{rule-count, rows-before-all, length-rows}
-use Rattle.names.proofs.Marks.{length-marked, marked-other, marked-at, marked-step, hashed-ends, ended}
+use Rattle.names.proofs.Marks.{length-marked, marked-other, marked-at, marked-step, ended}
+use Rattle.names.proofs.Chains.{hashed-ends}
 use Rattle.restorer.specs.Search.{stateOf, Quiet, Right, Searches, Looks, turnedTo, withTurned, Rested, RuleSettled}
 use Rattle.restorer.specs.Lends.{Lent, Marked, Given, Steady, Settles}
 use Rattle.restorer.proofs.Memories.{quiet-state}
@@ -27,7 +28,7 @@ use Rattle.restorer.proofs.Marks.{count-resolved, given-steady}
 
 module _ (f : ℕ → ℕ) (n : ℕ) (m : List ℕ) where
   pub marked-steady : Steady m (marked f 1 n m)
-  marked-steady = record { hash = λ i. marked-other f 1 n m (i * 4) (λ k l e. omega arith); end = λ i. marked-other f 1 n m (i * 4 + 3) (λ k l e. omega arith) }
+  marked-steady = record { hash = λ i. marked-other f 1 n m (i * 4) (λ k l e. omega arith); chain = λ i. marked-other f 1 n m (i * 4 + 2) (λ k l e. omega arith); end = λ i. marked-other f 1 n m (i * 4 + 3) (λ k l e. omega arith) }
 
   pub marked-state : (i : ℕ) → n * 4 ≤ length m → i < n → stateOf (marked f 1 n m) i ≡ f i
   marked-state i l h = marked-at f 1 n m i (omega arith) l h
@@ -39,7 +40,7 @@ pub turned-steady : (to n : ℕ) (m : List ℕ) {m′ : List ℕ} → m′ ≡ w
 turned-steady to n m e = rw e (marked-steady (λ j. turnedTo to (stateOf m j)) n m)
 
 pub steady-more : {m m₁ m₂ : List ℕ} → Steady m m₁ → Steady m₁ m₂ → Steady m m₂
-steady-more a b = record { hash = λ i. b .hash i ∙ a .hash i; end = λ i. b .end i ∙ a .end i }
+steady-more a b = record { hash = λ i. b .hash i ∙ a .hash i; chain = λ i. b .chain i ∙ a .chain i; end = λ i. b .end i ∙ a .end i }
 
 -- one more memory turns
 pub turned-step : (to i : ℕ) (m w : List ℕ) (k v : ℕ) → w ≡ withTurned to i m → k ≡ i * 4 + 1 → v ≡ turnedTo to (getD w k 0) → set w k v ≡ withTurned to (i + 1) m

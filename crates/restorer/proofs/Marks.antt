@@ -15,6 +15,7 @@ use Rattle.grammar.proofs.Logic.{eqb-eq}
 use Rattle.rows.specs.Rows.{At}
 use Rattle.rows.proofs.Laws.{root, size-pos}
 use Rattle.names.specs.Names.{Ended}
+use Rattle.names.proofs.Chains.{hashed-kept}
 use Rattle.names.proofs.Finding.{There, there, rule-count, rule-words, body-at}
 use Rattle.restorer.specs.Lends.{Lent, Given, zeros, Steady, Ran, TreeRows}
 use Rattle.restorer.proofs.Memories.{length-resolved}
@@ -43,19 +44,19 @@ zeros-less m i v h l z = omega (arith, zeros-set m i v h, not-zero v l, ap isZer
 -- ---- nothing but memories is changed
 
 pub ran-none : (m : List ℕ) → Ran m m
-ran-none m = record { steady = record { hash = λ i. refl; end = λ i. refl }; fewer = omega arith }
+ran-none m = record { steady = record { hash = λ i. refl; chain = λ i. refl; end = λ i. refl }; fewer = omega arith }
 
 pub ran-more : {m m₁ m₂ : List ℕ} → Ran m m₁ → Ran m₁ m₂ → Ran m m₂
 ran-more a b =
     record {
-      steady = record { hash = λ i. b .steady .hash i ∙ a .steady .hash i; end = λ i. b .steady .end i ∙ a .steady .end i };
+      steady = record { hash = λ i. b .steady .hash i ∙ a .steady .hash i; chain = λ i. b .steady .chain i ∙ a .steady .chain i; end = λ i. b .steady .end i ∙ a .steady .end i };
       fewer = omega (arith, a .fewer, b .fewer);
     }
 
 pub ran-set : (m : List ℕ) (i v : ℕ) → i * 4 + 1 < length m → 1 ≤ v → Ran m (set m (i * 4 + 1) v)
 ran-set m i v h l =
     record {
-      steady = record { hash = λ j. getD-set-other m (i * 4 + 1) (j * 4) v 0 (λ e. omega arith); end = λ j. getD-set-other m (i * 4 + 1) (j * 4 + 3) v 0 (λ e. omega arith) };
+      steady = record { hash = λ j. getD-set-other m (i * 4 + 1) (j * 4) v 0 (λ e. omega arith); chain = λ j. getD-set-other m (i * 4 + 1) (j * 4 + 2) v 0 (λ e. omega arith); end = λ j. getD-set-other m (i * 4 + 1) (j * 4 + 3) v 0 (λ e. omega arith) };
       fewer = omega (arith, zeros-set m (i * 4 + 1) v h, not-zero v l);
     }
 
@@ -66,7 +67,7 @@ given-steady g s l =
         table = g .marked .table;
         lent = g .marked .lent;
         inside = g .marked .inside;
-        hashed = record { inside = g .marked .hashed .inside; long = omega (arith, g .marked .hashed .long); hash = λ i h. s .hash i ∙ g .marked .hashed .hash i h };
+        hashed = hashed-kept (g .marked .hashed) l (s .hash) (s .chain);
       };
       ended = record { end = λ i h. s .end i ∙ g .ended .end i h };
     }

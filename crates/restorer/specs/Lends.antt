@@ -38,6 +38,7 @@ zeros (w ∷ m) = cond (eqb w 0) 1 0 + zeros m
 -- nothing but memories is changed
 pub record Steady (m m′ : List ℕ) : Type 0 where
   pub hash : (i : ℕ) → getD m′ (i * 4) 0 ≡ getD m (i * 4) 0
+  pub chain : (i : ℕ) → getD m′ (i * 4 + 2) 0 ≡ getD m (i * 4 + 2) 0
   pub end : (i : ℕ) → getD m′ (i * 4 + 3) 0 ≡ getD m (i * 4 + 3) 0
 
 -- and none is forgotten

@@ -19,6 +19,7 @@ use Rattle.rows.proofs.Views.{TwoView, as-lit, as-two, lit-is, two-is}
 use Rattle.names.specs.Names.{Hashed, Ended, First, Finds}
 use Rattle.names.specs.declared.Found.{Found as Found′}
 use Rattle.names.specs.declared.Found.the-variants.{At as Sited, Nothing}
+use Rattle.names.proofs.Chains.{hashed-kept}
 use Rattle.names.proofs.Finding.{There, there, rule-count, rule-words, looked, not-found, body-at}
 use Rattle.skipper.specs.Memory.{Known, Reads}
 use Rattle.skipper.specs.Lends.{indexFrom, marksOf, Lent, Given, Steady, Ran, ReadsOf}
@@ -32,7 +33,7 @@ given-steady g s l =
       table = g .table;
       lent = g .lent;
       inside = g .inside;
-      hashed = record { inside = g .hashed .inside; long = omega (arith, g .hashed .long); hash = λ i h. s .hash i ∙ g .hashed .hash i h };
+      hashed = hashed-kept (g .hashed) l (s .hash) (s .chain);
       ended = record { end = λ i h. s .end i ∙ g .ended .end i h };
     }
 

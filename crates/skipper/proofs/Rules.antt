@@ -42,16 +42,17 @@ not-zero v h = go (eqb v 0) refl
 
 -- one memory is written
 pub steady-none : (m : List ℕ) → Steady m m
-steady-none m = record { fewer = omega arith; hash = λ i. refl; end = λ i. refl }
+steady-none m = record { fewer = omega arith; hash = λ i. refl; chain = λ i. refl; end = λ i. refl }
 
 pub steady-more : {m m₁ m₂ : List ℕ} → Steady m m₁ → Steady m₁ m₂ → Steady m m₂
-steady-more s t = record { fewer = omega (arith, s .fewer, t .fewer); hash = λ i. t .hash i ∙ s .hash i; end = λ i. t .end i ∙ s .end i }
+steady-more s t = record { fewer = omega (arith, s .fewer, t .fewer); hash = λ i. t .hash i ∙ s .hash i; chain = λ i. t .chain i ∙ s .chain i; end = λ i. t .end i ∙ s .end i }
 
 pub steady-set : (m : List ℕ) (i v : ℕ) → i * 4 + 1 < length m → 1 ≤ v → Steady m (set m (i * 4 + 1) v)
 steady-set m i v h l =
     record {
       fewer = omega (arith, zeros-set m (i * 4 + 1) v h, not-zero v l);
       hash = λ j. getD-set-other m (i * 4 + 1) (j * 4) v 0 (λ e. omega arith);
+      chain = λ j. getD-set-other m (i * 4 + 1) (j * 4 + 2) v 0 (λ e. omega arith);
       end = λ j. getD-set-other m (i * 4 + 1) (j * 4 + 3) v 0 (λ e. omega arith);
     }
 

@@ -21,6 +21,7 @@ use Rattle.rows.specs.Rows.{At}
 use Rattle.rows.proofs.Laws.{root, size-pos}
 use Rattle.names.specs.Names.{marked, Hashed, Ended}
 use Rattle.names.proofs.Marks.{length-marked, marked-other, marked-at}
+use Rattle.names.proofs.Chains.{hashed-kept}
 use Rattle.names.proofs.Finding.{There, there, rule-words, inside-table}
 use Rattle.skipper.specs.Memory.{markOf, nameList, Marks, byMarks, Unfinished, Known, Grows}
 use Rattle.skipper.specs.Lends.{indexFrom, stateAt, marksOf, Lent, Given, Steady}
@@ -193,7 +194,7 @@ module _ {rules rows : List ℕ} {text : Bytes} {m : List ℕ} (g : Given rules 
         table = g .table;
         lent = g .lent;
         inside = g .inside;
-        hashed = record { inside = g .hashed .inside; long = omega (arith, g .hashed .long, length-marked (λ _. 0) 1 n m); hash = λ i h. marked-other (λ _. 0) 1 n m (i * 4) (λ j l e. omega arith) ∙ g .hashed .hash i h };
+        hashed = hashed-kept (g .hashed) (length-marked (λ _. 0) 1 n m) (λ i. marked-other (λ _. 0) 1 n m (i * 4) (λ j l e. omega arith)) (λ i. marked-other (λ _. 0) 1 n m (i * 4 + 2) (λ j l e. omega arith));
         ended = record { end = λ i h. marked-other (λ _. 0) 1 n m (i * 4 + 3) (λ j l e. omega arith) ∙ g .ended .end i h };
       }
 

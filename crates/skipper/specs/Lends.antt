@@ -53,6 +53,7 @@ zeros (w ∷ m) = cond (eqb w 0) 1 0 + zeros m
 pub record Steady (m m′ : List ℕ) : Type 0 where
   pub fewer : zeros m′ ≤ zeros m
   pub hash : (i : ℕ) → getD m′ (i * 4) 0 ≡ getD m (i * 4) 0
+  pub chain : (i : ℕ) → getD m′ (i * 4 + 2) 0 ≡ getD m (i * 4 + 2) 0
   pub end : (i : ℕ) → getD m′ (i * 4 + 3) 0 ≡ getD m (i * 4 + 3) 0
 
 -- the same of a reading that answers a

@@ -3,16 +3,17 @@ use mathlib.Core.Logic.{inl, inr}
 use borrow.Author.Tests.{not-true, not-false}
 use Rattle.rows.proofs.Cells.{tells-yes, tells-no}
 use Rattle.names.specs.Names.{Hashed, Ended}
-use Rattle.names.proofs.Marks.{hashed, hashed-ends, ended}
+use Rattle.names.proofs.Marks.{ended}
+use Rattle.names.proofs.Chains.{hashed-ends}
 use borrow.Author.Needs.{needs}
 use Rattle.refusals.proofs.check_names.Statement.{statement}
 use Rattle.refusals.proofs.check_names.Tie as tie
 
-hash-names-requires : tie.Need-hash-names-requires
-hash-names-requires c κs = search needs
+index-names-requires : tie.Need-index-names-requires
+index-names-requires c κs = search needs
 
 names-fine-requires : tie.Need-names-fine-requires
-names-fine-requires c κs = let s = c .before .before .before .before .before .before .before .before .before in subst (Hashed _ _) (sym (c .before .before .before .hash-names .ensures)) (hashed _ _ _ (s .pre .0) (s .pre .1 .0))
+names-fine-requires c κs = search needs
 
 same-length : tie.Need-same-length
 same-length c = search needs
@@ -37,8 +38,7 @@ same-length-3 c = search needs
 
 returns-3 : tie.Need-returns-3
 returns-3 c =
-    let s = c .before .before .before .before .before .before .before .before .before .before .before .before .before .before .before .before .before in
-    let h = subst (Hashed _ _) (sym (c .before .before .before .before .before .before .before .before .before .before .before .hash-names .ensures)) (hashed _ _ _ (s .pre .0) (s .pre .1 .0)) in (
+    let h = c .before .before .before .before .before .before .before .before .before .before .before .index-names .ensures in (
       tells-yes (not-false (c .before .before .before .before .before .before .before .names-fine .result) (c .before .before .before .before .before .before .if1 .left)) (c .before .before .before .before .before .before .before .names-fine .ensures),
       sym (c .before .before .before .before .before .zero-counts .ensures) ∙ c .before .before .before .before .if2 .left,
       subst (Hashed _ _) (sym (c .before .before .mark-ends .ensures)) (hashed-ends _ _ _ h),
@@ -49,7 +49,7 @@ pub check-names-spec : {M : Type 1} → statement M
 check-names-spec =
     tie.close
     (tie.spec
-    hash-names-requires
+    index-names-requires
     names-fine-requires
     same-length
     returns
