@@ -8,8 +8,7 @@ use Rattle.grammar.specs.Basic.{Bytes}
 use Rattle.grammar.specs.Rows.{Span}
 use Rattle.grammar.specs.Table.{Table, packedFrom, resolveTable}
 use Rattle.grammar.specs.Steps.{each}
-use Rattle.names.specs.Names.{NamesInside, withHashes}
-use Rattle.names.proofs.Marks.{hashed}
+use Rattle.names.specs.Names.{Hashed}
 use Rattle.writing.specs.declared.Place.{Place}
 use Rattle.writing.specs.declared.Wrote.{Wrote}
 use Rattle.restorer.specs.Lends.{Marked}
@@ -63,14 +62,14 @@ own-answer a step t n os₂ o₂ s₂ os′ o′ s′ f e p =
     subst (λ (x : Table Bytes). PassAnswer a (each (stepOf step x) x) os₂ o₂ s₂ os′ o′ s′) (front-is t f) (p (record { rules = h .rules; rows = h .rows }) h)
 
 -- with the hashes of its names
-pub stands-marked : {n : ℕ} {q : Place} {os o s : List ℕ} (m : List ℕ) {m′ : List ℕ} → Stands n q os o s → n ≤ length m → m′ ≡ withHashes (take n os) (take (q .text) s) m → Marked (take n os) (take (q .rows * 4) o) (take (q .text) s) m′
-stands-marked {n} {q} {os} {o} {s} m {m′} k l e =
+pub stands-marked : {n : ℕ} {q : Place} {os o s m : List ℕ} → Stands n q os o s → Hashed (take n os) (take (q .text) s) m → Marked (take n os) (take (q .rows * 4) o) (take (q .text) s) m
+stands-marked k d =
     let h = stands-holds k in
     record {
       table = packedFrom 0 (k .table);
       lent = record { heads = h .rules; trees = h .rows };
       inside = h .inside;
-      hashed = rw e (hashed (take n os) (take (q .text) s) m (h .names) (omega (arith, l, length-take n os)));
+      hashed = d;
     }
 
 -- steps 6 and 7

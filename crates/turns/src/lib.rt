@@ -203,7 +203,7 @@ pub fn first_five(
 // The marks of a packed table, settled for restore.
 pub fn settle(count: usize, p: Place, heads: &[u32], rows: &[u32], text: &[u8], marks: &mut [u32])
     requires { ⌜ Stands count p (now heads) (now rows) (now text) ⌝ }
-    requires { ⌜ (count ≤ length (now marks)) × (length (now rows) < 2 ^ 32) ⌝ }
+    requires { ⌜ (count ≤ length (now marks)) × (count < 262144) × (length (now rows) < 2 ^ 32) ⌝ }
     ensures { λ _. ⌜ Restorable count p (now (heads .entry)) (now (rows .entry)) (now (text .entry)) (now (marks .exit)) ⌝ }
 {
     let words = p.rows * 4;
@@ -211,7 +211,7 @@ pub fn settle(count: usize, p: Place, heads: &[u32], rows: &[u32], text: &[u8], 
     let h = &heads[..count];
     let r = &rows[..words];
     let t = &text[..bytes];
-    names::hash_names(h, t, marks);
+    names::index_names(h, t, marks);
     restorer::settle(h, r, t, marks);
 }
 

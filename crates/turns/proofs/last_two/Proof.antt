@@ -69,7 +69,7 @@ settle-requires c κs =
     let k = s .pre .1 .0 in
     let z = s .pre .1 .1 in
     let f = done-front _ _ _ _ _ _ _ (c .before .before .before .before .before .q .given .1) (c .before .before .before .before .before .before .before .before .before .before .before .before .before .own .ensures (k .table) (k .front) (k .count)) in
-    (stands-after 6 k f, (omega (arith, k .count, front-few (k .table) (z .one) (k .front), s .pre .0), omega (arith, c .before .before .before .before .before .before .before .before .before .before .before .before .before .own .kept .1 .1 .1 .1 .1 .1 .1 .1 .0, z .other .rows)))
+    (stands-after 6 k f, (omega (arith, k .count, front-few (k .table) (z .one) (k .front), s .pre .0), omega (arith, k .count, front-few (k .table) (z .one) (k .front)), omega (arith, c .before .before .before .before .before .before .before .before .before .before .before .before .before .own .kept .1 .1 .1 .1 .1 .1 .1 .1 .0, z .other .rows)))
 
 -- src/lib.rt:276:26
 own-requires-2 : tie.Need-own-requires-2

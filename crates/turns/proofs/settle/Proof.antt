@@ -9,7 +9,7 @@ use Rattle.turns.proofs.settle.Statement.{statement}
 use Rattle.turns.proofs.settle.Tie as tie
 use Rattle.turns.proofs.settle.Reads as reads
 use Rattle.turns.proofs.settle.Lts as lts
-use Rattle.names.proofs.hash_names.Reads as hash-names-reads
+use Rattle.names.proofs.index_names.Reads as index-names-reads
 use Rattle.restorer.proofs.settle.Reads as settle-reads
 
 -- src/lib.rt:209:17
@@ -17,7 +17,7 @@ mul-words : tie.Need-mul-words
 mul-words c =
     let s = c .before .before .before .before .before in
     let a = stands-within (s .pre .0) .1 in
-    search (needs, a, s .pre .1 .1)
+    search (needs, a, s .pre .1 .2)
 
 -- src/lib.rt:211:9
 slice-aggregate-h : tie.Need-slice-aggregate-h
@@ -32,16 +32,17 @@ slice-aggregate-t : tie.Need-slice-aggregate-t
 slice-aggregate-t c = sym (length-take-le _ _ (stands-within (c .before .before .before .before .before .before .before .before .pre .0) .2))
 
 -- src/lib.rt:214:5
-hash-names-requires : tie.Need-hash-names-requires
-hash-names-requires c κs =
+index-names-requires : tie.Need-index-names-requires
+index-names-requires c κs =
     let s = c .before .before .before .before .before .before .before .before .before in
-    (stands-holds (s .pre .0) .names, omega (arith, length-take (s .args .count) (s .args .heads .now), s .pre .1 .0))
+    let l = length-take (s .args .count) (s .args .heads .now) in
+    (stands-holds (s .pre .0) .names, (omega (arith, l, s .pre .1 .0), omega (arith, l, s .pre .1 .1)))
 
 -- src/lib.rt:215:5
 settle-requires : tie.Need-settle-requires
 settle-requires c κs =
     let s = c .before .before .before .before .before .before .before .before .before .before .before .before .before in
-    (stands-marked _ (s .pre .0) (s .pre .1 .0) (c .before .before .before .hash-names .ensures), omega (arith, length-take (s .args .p .rows * 4) (s .args .rows .now), s .pre .1 .1))
+    (stands-marked (s .pre .0) (c .before .before .before .index-names .ensures), omega (arith, length-take (s .args .p .rows * 4) (s .args .rows .now), s .pre .1 .2))
 
 -- src/lib.rt:204:1
 same-length : tie.Need-same-length
@@ -61,7 +62,7 @@ settle-spec =
     slice-aggregate-h
     slice-aggregate-r
     slice-aggregate-t
-    hash-names-requires
+    index-names-requires
     settle-requires
     same-length
     returns)
