@@ -5,3 +5,4 @@ mod Looks
 mod Pairs
 mod Ends
 mod Walks
+mod Quiets

@@ -8,3 +8,4 @@ pub mod Lays
 pub mod Spreads
 pub mod Nodes
 pub mod Walks
+pub mod Quiets

@@ -1,14 +1,16 @@
 // Unroll: a counted repeat becomes its items, nested to the right.
 ghost use mathlib.Core.Path.{_≡_};
+ghost use mathlib.Core.Bool.{false};
 ghost use mathlib.Core.List.{List, _∷_};
 ghost use Prim.Native.Nat.{ℕ, _+_, _-_, _*_, _/_, _^_, _≤_, _<_};
 ghost use lib.ListN.{length, replicate};
+ghost use Rattle.grammar.specs.Basic.{Bytes};
 ghost use Rattle.grammar.specs.Tree.{Un, unHead, Expr, E};
 ghost use Rattle.grammar.specs.Rows.{Span};
 ghost use Rattle.grammar.specs.Steps.{nest, unrolled, unroll};
 ghost use Rattle.grammar.specs.Text.{bytesAt, resolve};
 ghost use Rattle.writing.specs.Writes.{stored, Room, RowPut, Written, Answer};
-ghost use Rattle.rows.specs.Rows.{Tells, Inside, At};
+ghost use Rattle.rows.specs.Rows.{Tells, Inside, At, Stands};
 ghost use Rattle.unroller.specs.declared.Item.the-variants.{Once};
 ghost use Rattle.unroller.specs.Items.{Counted, itemOf, itemsOf, countOf, items, itemsFor, IsRepeat, Holds};
 ghost use Rattle.unroller.specs.Copies.{movedRow, moved, Movable, Source, Copyable, Repeatable, Finishable, Layable, Spreadable, Headed, Laid};
@@ -282,15 +284,32 @@ fn node(out: &mut [u32], lits: &mut [u8], p: Place, q: Place, kind: u32, x: u32,
     writing::put_row(out, q, kind, x, y, size as u32)
 }
 
-// Writes the subtree of row `root`, unrolled, at p.
-pub fn unroll(
-    rows: &[u32],
-    text: &[u8],
-    root: usize,
-    out: &mut [u32],
-    lits: &mut [u8],
-    p: Place,
-) -> Wrote
+// Whether a row of the subtree of row `root` is unrolled.
+fn unrolls(rows: &[u32], root: usize) -> bool
+    requires { ⌜ Stands (now rows) root ⌝ }
+    ensures { λ b. ⌜ (b ≡ false → (t : Bytes) (r : Expr Span) → At (now (rows .entry)) root r → unroll (resolve t r) ≡ resolve t r) ⌝ }
+{
+    let Lookup::Row {
+        kind: _,
+        x: _,
+        y: _,
+        size,
+    } = rows::row_at(rows, root)
+    else {
+        return true;
+    };
+    let mut i = root + 1 - rows::wide(size);
+    while i <= root {
+        if is_repeat(rows[i * 4]) {
+            return true;
+        }
+        i += 1;
+    }
+    false
+}
+
+// Writes the subtree of row `root`, unrolled node by node, at p.
+fn walk(rows: &[u32], text: &[u8], root: usize, out: &mut [u32], lits: &mut [u8], p: Place) -> Wrote
     requires { ⌜ Inside (now rows) (length (now text)) ⌝ }
     requires { ⌜ Counted (now rows) root ⌝ }
     requires { ⌜ Room p (now out) (now lits) ⌝ }
@@ -310,7 +329,7 @@ pub fn unroll(
         Shape::Num => writing::put_row(out, p, kind, x, y, 1),
         Shape::Skips => writing::copy(rows, text, root, out, lits, p),
         Shape::One => {
-            let Wrote::Done(q) = unroll(rows, text, root - 1, out, lits, p) else {
+            let Wrote::Done(q) = walk(rows, text, root - 1, out, lits, p) else {
                 return Wrote::Full;
             };
             node(out, lits, p, q, kind, x, y)
@@ -326,14 +345,34 @@ pub fn unroll(
             else {
                 return Wrote::Full;
             };
-            let Wrote::Done(q) = unroll(rows, text, right - n as usize, out, lits, p) else {
+            let Wrote::Done(q) = walk(rows, text, right - n as usize, out, lits, p) else {
                 return Wrote::Full;
             };
-            let Wrote::Done(s) = unroll(rows, text, right, out, lits, q) else {
+            let Wrote::Done(s) = walk(rows, text, right, out, lits, q) else {
                 return Wrote::Full;
             };
             let size = s.rows - p.rows + 1;
             writing::put_row(out, s, kind, x, y, size as u32)
         }
     }
+}
+
+// Writes the subtree of row `root`, unrolled, at p: most have nothing to unroll, and a copy takes a fifth of a walk's time.
+pub fn unroll(
+    rows: &[u32],
+    text: &[u8],
+    root: usize,
+    out: &mut [u32],
+    lits: &mut [u8],
+    p: Place,
+) -> Wrote
+    requires { ⌜ Inside (now rows) (length (now text)) ⌝ }
+    requires { ⌜ Counted (now rows) root ⌝ }
+    requires { ⌜ Room p (now out) (now lits) ⌝ }
+    ensures { λ a. ⌜ ((r : Expr Span) → At (now (rows .entry)) root r → Answer a p (unroll (resolve (now (text .entry)) r)) (now (out .entry)) (now (out .exit)) (now (lits .entry)) (now (lits .exit))) ⌝ }
+{
+    if !unrolls(rows, root) {
+        return writing::copy(rows, text, root, out, lits, p);
+    }
+    walk(rows, text, root, out, lits, p)
 }
