@@ -2,3 +2,4 @@
 pub mod Factors
 mod Splits
 mod Walks
+mod Quiets

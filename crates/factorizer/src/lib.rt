@@ -1,13 +1,15 @@
 // Factor, over a whole subtree: a Choice of two sides that begin alike.
 ghost use mathlib.Core.Path.{_≡_};
+ghost use mathlib.Core.Bool.{false};
+ghost use mathlib.Core.Option.{none};
 ghost use Rattle.grammar.specs.Basic.{Bytes};
 ghost use Prim.Native.Nat.{_+_, _-_, _^_, _≤_, _<_};
 ghost use lib.ListN.{length};
 ghost use Rattle.grammar.specs.Tree.{Expr, Bin, Choice, bin, binKind};
 ghost use Rattle.grammar.specs.Rows.{Span};
 ghost use Rattle.grammar.specs.Text.{resolve};
-ghost use Rattle.grammar.specs.Steps.{isTight, factor};
-ghost use Rattle.rows.specs.Rows.{Inside, At, Stands};
+ghost use Rattle.grammar.specs.Steps.{isTight, factor?, factor};
+ghost use Rattle.rows.specs.Rows.{kindAt, Inside, At, Stands};
 ghost use Rattle.writing.specs.Writes.{Areas, RowAnswer};
 ghost use Rattle.writing.specs.Keeps.{KeptAnswer, Ready};
 ghost use Rattle.factorizer.specs.Factors.{factored, beneath, ReadyBoth};
@@ -113,6 +115,59 @@ pub fn case_of(rows: &[u32], text: &[u8], l: usize, r: usize, tight: bool) -> Ca
             Sides::Other => Case::Plain,
         },
     }
+}
+
+// Whether the Choice of row i is one of the three cases.
+pub fn fires(rows: &[u32], text: &[u8], i: usize, tight: bool) -> bool
+    requires { ⌜ Inside (now rows) (length (now text)) ⌝ }
+    requires { ⌜ Stands (now rows) i ⌝ }
+    requires { ⌜ kindAt (now rows) i ≡ 9 ⌝ }
+    ensures { λ b. ⌜ (b ≡ false → (x : Expr Span) → At (now (rows .entry)) i x → factor? tight (resolve (now (text .entry)) x) ≡ none) ⌝ }
+{
+    let right = i - 1;
+    let Lookup::Row {
+        kind: _,
+        x: _,
+        y: _,
+        size: n,
+    } = rows::row_at(rows, right)
+    else {
+        return true;
+    };
+    let left = right - rows::wide(n);
+    match case_of(rows, text, left, right, tight) {
+        Case::Heads { a: _, b: _, c: _ } => true,
+        Case::Tail { a: _, b: _ } => true,
+        Case::First => true,
+        Case::Plain => false,
+    }
+}
+
+// Whether some Choice of the subtree of row `root` is.
+pub fn any_fires(rows: &[u32], text: &[u8], root: usize, tight: bool) -> bool
+    requires { ⌜ Inside (now rows) (length (now text)) ⌝ }
+    requires { ⌜ Stands (now rows) root ⌝ }
+    ensures { λ b. ⌜ (b ≡ false → (r : Expr Span) → At (now (rows .entry)) root r → factored tight (resolve (now (text .entry)) r) ≡ resolve (now (text .entry)) r) ⌝ }
+{
+    let Lookup::Row {
+        kind: _,
+        x: _,
+        y: _,
+        size,
+    } = rows::row_at(rows, root)
+    else {
+        return true;
+    };
+    let mut i = root + 1 - rows::wide(size);
+    while i <= root {
+        if rows[i * 4] == 9 {
+            if fires(rows, text, i, tight) {
+                return true;
+            }
+        }
+        i += 1;
+    }
+    false
 }
 
 // Ends a node whose children stand from p to q.
@@ -285,7 +340,7 @@ pub fn at(
     choice(rows, text, left, right, tight, out, lits, p)
 }
 
-// Writes the factored subtree of row `root` of a rule of that type at p, its literals packed.
+// Writes the factored subtree of row `root` of a rule of that type at p, its literals packed: in most no case fits, and a copy takes a fifth of a walk's time.
 pub fn factor(
     rows: &[u32],
     text: &[u8],
@@ -300,5 +355,9 @@ pub fn factor(
     requires { ⌜ Areas (now out) (now lits) ⌝ }
     ensures { λ a. ⌜ ((r : Expr Span) → At (now (rows .entry)) root r → KeptAnswer a p (factor rule (resolve (now (text .entry)) r)) (now (out .entry)) (now (out .exit)) (now (lits .entry)) (now (lits .exit))) ⌝ }
 {
-    at(rows, text, root, tight_rule(rule), out, lits, p)
+    let tight = tight_rule(rule);
+    if !any_fires(rows, text, root, tight) {
+        return writing::keep(rows, text, root, out, lits, p);
+    }
+    at(rows, text, root, tight, out, lits, p)
 }
