@@ -1,12 +1,15 @@
-// Right-nested chains: the rows that close one.
+// Right-nested chains: the rows that close one. Runs of nodes with one child each: where one ends, and its rows over another tree.
 ghost use mathlib.Core.Path.{_≡_};
 ghost use mathlib.Core.List.{List};
-ghost use Prim.Native.Nat.{ℕ};
+ghost use Prim.Native.Nat.{ℕ, _+_};
 ghost use lib.ListN.{length};
 ghost use Rattle.grammar.specs.Tree.{Bin, binKind, Expr};
 ghost use Rattle.grammar.specs.Rows.{Span};
+ghost use Rattle.rows.specs.Rows.{At, Stands};
 ghost use Rattle.chains.specs.Chains.{Forest, Closable, ClosedAnswer, IsBin};
+ghost use Rattle.chains.specs.Runs.{ups, Raisable, RaisedAnswer};
 use rows::Lookup;
+use rows::Shape;
 use writing::Place;
 use writing::Wrote;
 
@@ -48,5 +51,58 @@ pub fn close(out: &mut [u32], s: Place, kind: u32, n: usize) -> Wrote
     Wrote::Done(Place {
         rows: at,
         text: s.text,
+    })
+}
+
+// The row below the run of rows with one child each that ends at `root`: `root` itself where its row has none or two.
+pub fn below(rows: &[u32], root: usize) -> usize
+    requires { ⌜ Stands (now rows) root ⌝ }
+    ensures { λ b. ⌜ ((r : Expr Span) → At (now (rows .entry)) root r → b + length (ups r) ≡ root) ⌝ }
+{
+    let mut base = root;
+    while base > 0 {
+        let Lookup::Row {
+            kind,
+            x: _,
+            y: _,
+            size: _,
+        } = rows::row_at(rows, base)
+        else {
+            return base;
+        };
+        if let Shape::One = rows::shape_of(kind) {
+            base -= 1;
+        } else {
+            return base;
+        }
+    }
+    base
+}
+
+// Writes the rows after `base` up to `root` over the tree that stands from p to q, with its sizes.
+pub fn raise(rows: &[u32], base: usize, root: usize, out: &mut [u32], p: Place, q: Place) -> Wrote
+    requires { ⌜ Raisable (now rows) base root p q (now out) ⌝ }
+    ensures { λ a. ⌜ ((r : Expr Span) → At (now (rows .entry)) root r → RaisedAnswer a q p (ups r) (now (out .entry)) (now (out .exit))) ⌝ }
+{
+    let first = p.rows;
+    let mut at = q.rows;
+    let mut i = base;
+    while i < root {
+        i += 1;
+        let Lookup::Row {
+            kind,
+            x,
+            y,
+            size: _,
+        } = rows::row_at(rows, i)
+        else {
+            return Wrote::Full;
+        };
+        writing::set_row(out, at, kind, x, y, (at + 1 - first) as u32);
+        at += 1;
+    }
+    Wrote::Done(Place {
+        rows: at,
+        text: q.text,
     })
 }

@@ -87,44 +87,39 @@ fn bottom_up(
     requires { ⌜ Areas (now out) (now lits) ⌝ }
     ensures { λ a. ⌜ ((r : Expr Span) → At (now (rows .entry)) root r → KeptAnswer a p (concatenate Atomic (resolve (now (text .entry)) r)) (now (out .entry)) (now (out .exit)) (now (lits .entry)) (now (lits .exit))) ⌝ }
 {
+    let base = chains::below(rows, root);
     let Lookup::Row {
         kind,
-        x,
-        y,
+        x: _,
+        y: _,
         size: _,
-    } = rows::row_at(rows, root)
+    } = rows::row_at(rows, base)
     else {
         return Wrote::Full;
     };
-    match rows::shape_of(kind) {
-        Shape::Lit => writing::put_lit(text, x as usize, y as usize, kind, out, lits, p),
-        Shape::Num => writing::put_row(out, p, kind, x, y, 1),
-        Shape::Skips => writing::keep(rows, text, root, out, lits, p),
-        Shape::One => {
-            let Wrote::Done(q) = bottom_up(rows, text, root - 1, out, lits, p) else {
-                return Wrote::Full;
-            };
-            writing::put_row(out, q, kind, x, y, (q.rows - p.rows + 1) as u32)
-        }
-        Shape::Two => {
-            let right = root - 1;
-            let Lookup::Row {
-                kind: _,
-                x: _,
-                y: _,
-                size: n,
-            } = rows::row_at(rows, right)
-            else {
-                return Wrote::Full;
-            };
-            let Wrote::Done(q) = bottom_up(rows, text, right - n as usize, out, lits, p) else {
-                return Wrote::Full;
-            };
-            let Wrote::Done(s) = bottom_up(rows, text, right, out, lits, q) else {
-                return Wrote::Full;
-            };
-            finish(out, p, q, s, kind)
-        }
+    if let Shape::Two = rows::shape_of(kind) {
+        let right = base - 1;
+        let Lookup::Row {
+            kind: _,
+            x: _,
+            y: _,
+            size: n,
+        } = rows::row_at(rows, right)
+        else {
+            return Wrote::Full;
+        };
+        let Wrote::Done(q) = bottom_up(rows, text, right - n as usize, out, lits, p) else {
+            return Wrote::Full;
+        };
+        let Wrote::Done(s) = bottom_up(rows, text, right, out, lits, q) else {
+            return Wrote::Full;
+        };
+        let Wrote::Done(e) = finish(out, p, q, s, kind) else {
+            return Wrote::Full;
+        };
+        chains::raise(rows, base, root, out, p, e)
+    } else {
+        writing::keep(rows, text, root, out, lits, p)
     }
 }
 

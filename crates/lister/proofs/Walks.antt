@@ -1,41 +1,30 @@
 -- A subtree that was read is listed by what its children's calls answer. Assumes nothing.
-use mathlib.Core.Path.{_≡_, refl, sym, ap, subst, _∙_}
+use mathlib.Core.Path.{_≡_, refl, ap, _∙_}
 use mathlib.Core.List.{List, _++_, append-assoc}
 use Prim.Native.Nat.{ℕ, _*_, _/_, _≤_, _<_}
 use native.Mathlib.Omega.{arith}
 use lib.ListN.{length, take}
 use lib.Seq.{length-take-le}
 use Rattle.grammar.specs.Basic.{Bytes}
-use Rattle.grammar.specs.Tree.{E, Expr, Bin, lit, fixed, skip, un, bin, binKind}
+use Rattle.grammar.specs.Tree.{E, Expr, Bin, lit, fixed, skip, un, bin, binKind, size}
 use Rattle.grammar.specs.Rows.{Span, flat}
 use Rattle.grammar.specs.Text.{resolve, textOf, packed}
 use Rattle.grammar.specs.Steps.{list, list?, orSame}
-use Rattle.rows.specs.declared.Shape.{Shape}
-use Rattle.rows.specs.declared.Shape.the-variants.{Lit, Num, One, Two, Skips}
-use Rattle.rows.specs.Rows.{At, shapeOf}
-use Rattle.rows.proofs.Laws.{Found}
-use Rattle.rows.proofs.Views.{OneView, TwoView, shapeIn, found-shape}
-use Rattle.rows.proofs.Cells.{size-resolve}
+use Rattle.rows.proofs.Views.{TwoView, shapeIn}
 use Rattle.writing.specs.declared.Place.{Place}
 use Rattle.writing.specs.declared.Wrote.{Wrote}
 use Rattle.writing.specs.declared.Wrote.the-variants.{Done, Full}
-use Rattle.writing.specs.Writes.{Fits, RowAnswer}
+use Rattle.writing.specs.Writes.{Fits}
 use Rattle.writing.specs.Keeps.{Kept, KeptAnswer}
-use Rattle.writing.proofs.Keeps.{kept-un, row-room, right-fits}
+use Rattle.writing.proofs.Keeps.{right-fits}
+use Rattle.chains.proofs.Walks.{Leaf}
 use Rattle.lister.specs.Mends.{Pair}
-use Rattle.lister.proofs.Lists.{list-un, list-bin, list-size, list-text}
+use Rattle.lister.proofs.Lists.{list-bin, list-size, list-text}
 use Rattle.lister.proofs.Pairs.{front-of}
 
 -- ---- leaves are as they were
 
-abbrev pub Leaf : Shape → Type 0
-Leaf Lit = Unit {0}
-Leaf Num = Unit {0}
-Leaf Skips = Unit {0}
-Leaf One = ⊥
-Leaf Two = ⊥
-
-list-leaf : (t : Bytes) (r : Expr Span) → Leaf (shapeIn r) → list (resolve t r) ≡ resolve t r
+pub list-leaf : (t : Bytes) (r : Expr Span) → Leaf (shapeIn r) → list (resolve t r) ≡ resolve t r
 unfolding list list?
 list-leaf t (lit k s) h = refl
 list-leaf t (fixed f) h = refl
@@ -43,21 +32,8 @@ list-leaf t (skip ss) h = refl
 list-leaf t (un u e) h = absurd h
 list-leaf t (bin b l r) h = absurd h
 
-pub leaf-list : (t : Bytes) {w : List ℕ} {i k x y n : ℕ} {r : Expr Span} {s : Shape} → Found w i k x y n → At w i r → shapeOf k ≡ s → Leaf s → list (resolve t r) ≡ resolve t r
-leaf-list t {r} f a h l = list-leaf t r (subst Leaf (sym (found-shape f a h)) l)
-
--- ---- one child
-
-module _ (t : Bytes) {w : List ℕ} {i k x y n : ℕ} {r : Expr Span} (v : OneView w i k x y n r) where
-  -- what the child's call left room for
-  pub one-room : {q p : Place} {o o₁ b b₁ : List ℕ} → Kept q p (list (resolve t (v .child))) o o₁ b b₁ → length o₁ ≡ length o → Fits p (resolve t r) o b → q .rows < length o₁ / 4
-  one-room c l f = row-room c (resolve t (v .child)) (omega (arith, list-size (resolve t (v .child)))) l (rw (v .is) at f)
-
-  pub list-one : (a : Wrote) {q p : Place} {o o₁ b b₁ : List ℕ} (o₂ : List ℕ) → Kept q p (list (resolve t (v .child))) o o₁ b b₁ → q .rows < length o₁ / 4
-      → RowAnswer a q (k, x, y) n o₁ o₂ → KeptAnswer a p (list (resolve t r)) o o₂ b b₁
-  list-one Full o₂ c h g = absurd (g h)
-  list-one (Done a) o₂ c h g =
-      rw (v .is, list-un) (kept-un c (v .op) (k, x, y) n (v .head) (v .rows ∙ omega (arith, list-size (resolve t (v .child)), size-resolve t (v .child))) g)
+pub list-most : (e : E) → size (list e) ≤ size e
+list-most e = omega (arith, list-size e)
 
 -- ---- two children
 

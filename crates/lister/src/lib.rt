@@ -156,39 +156,40 @@ pub fn walk(
     requires { ⌜ Areas (now out) (now lits) ⌝ }
     ensures { λ a. ⌜ ((r : Expr Span) → At (now (rows .entry)) root r → KeptAnswer a p (list (resolve (now (text .entry)) r)) (now (out .entry)) (now (out .exit)) (now (lits .entry)) (now (lits .exit))) ⌝ }
 {
-    let Lookup::Row { kind, x, y, size } = rows::row_at(rows, root) else {
+    let base = chains::below(rows, root);
+    let Lookup::Row {
+        kind,
+        x: _,
+        y: _,
+        size: _,
+    } = rows::row_at(rows, base)
+    else {
         return Wrote::Full;
     };
-    match rows::shape_of(kind) {
-        Shape::Lit => writing::keep(rows, text, root, out, lits, p),
-        Shape::Num => writing::keep(rows, text, root, out, lits, p),
-        Shape::Skips => writing::keep(rows, text, root, out, lits, p),
-        Shape::One => {
-            let Wrote::Done(q) = walk(rows, text, root - 1, out, lits, p) else {
-                return Wrote::Full;
-            };
-            writing::put_row(out, q, kind, x, y, size)
-        }
-        Shape::Two => {
-            let right = root - 1;
-            let Lookup::Row {
-                kind: _,
-                x: _,
-                y: _,
-                size: n,
-            } = rows::row_at(rows, right)
-            else {
-                return Wrote::Full;
-            };
-            let left = right - rows::wide(n);
-            let Wrote::Done(q) = walk(rows, text, left, out, lits, p) else {
-                return Wrote::Full;
-            };
-            let Wrote::Done(s) = walk(rows, text, right, out, lits, q) else {
-                return Wrote::Full;
-            };
-            finish(out, lits, p, q, s, kind)
-        }
+    if let Shape::Two = rows::shape_of(kind) {
+        let right = base - 1;
+        let Lookup::Row {
+            kind: _,
+            x: _,
+            y: _,
+            size: n,
+        } = rows::row_at(rows, right)
+        else {
+            return Wrote::Full;
+        };
+        let left = right - rows::wide(n);
+        let Wrote::Done(q) = walk(rows, text, left, out, lits, p) else {
+            return Wrote::Full;
+        };
+        let Wrote::Done(s) = walk(rows, text, right, out, lits, q) else {
+            return Wrote::Full;
+        };
+        let Wrote::Done(e) = finish(out, lits, p, q, s, kind) else {
+            return Wrote::Full;
+        };
+        chains::raise(rows, base, root, out, p, e)
+    } else {
+        writing::keep(rows, text, root, out, lits, p)
     }
 }
 

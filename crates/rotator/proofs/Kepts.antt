@@ -6,27 +6,28 @@ use native.Mathlib.Omega.{arith}
 use lib.ListN.{length, take, length-append}
 use lib.Seq.{length-take-le}
 use Rattle.grammar.specs.Basic.{Bytes}
-use Rattle.grammar.specs.Tree.{E, Expr, Bin, lit, fixed, skip, un, bin, binKind, size}
+use borrow.Author.Tests.{eq-eqb, ne-eqb}
+use Rattle.grammar.specs.Tree.{E, Expr, Bin, Seq, Choice, lit, fixed, skip, un, bin, binKind, size}
 use Rattle.grammar.specs.Rows.{Span, flat}
 use Rattle.grammar.specs.Text.{resolve, textOf, packed}
 use Rattle.grammar.specs.Steps.{rotate}
-use Rattle.rows.specs.declared.Shape.{Shape}
-use Rattle.rows.specs.declared.Shape.the-variants.{One, Two}
-use Rattle.rows.specs.Rows.{At, shapeOf}
-use Rattle.rows.proofs.Laws.{Found}
-use Rattle.rows.proofs.Cells.{bin-shape, bin-same, size-resolve}
-use Rattle.rows.proofs.Views.{OneView, TwoView, shapeIn, found-shape}
+use Rattle.rows.specs.declared.Shape.the-variants.{Two}
+use Rattle.rows.proofs.Laws.{headOf}
+use Rattle.rows.proofs.Cells.{size-resolve}
+use Rattle.rows.proofs.Views.{TwoView, shapeIn}
 use Rattle.writing.specs.declared.Place.{Place}
 use Rattle.writing.specs.declared.Wrote.{Wrote}
 use Rattle.writing.specs.declared.Wrote.the-variants.{Done, Full}
-use Rattle.writing.specs.Writes.{Areas, Fits, RowAnswer}
-use Rattle.writing.specs.Keeps.{Kept, KeptAnswer}
+use Rattle.writing.specs.Writes.{Areas, Fits}
+use Rattle.writing.specs.Keeps.{KeptAnswer}
 use Rattle.writing.proofs.Trees.{size-packed}
 use Rattle.chains.specs.Chains.{chain, sizes, flats, texts, packs, Forest, Closable, ClosedAnswer}
 use Rattle.chains.proofs.Trees.{Snoc, as-snoc, size-chain, text-chain, sizes-append, flats-append, texts-append, packs-append, sizes-packs, length-packs, packed-chain}
 use Rattle.chains.proofs.Closes.{chain-stands}
-use Rattle.chains.proofs.Walks.{Leaf, leaf-kept, one-kept}
-use Rattle.rotator.specs.Members.{members, membersOf, KeptAll, AllAnswer}
+use Rattle.chains.specs.Runs.{ups, low}
+use Rattle.chains.proofs.Runs.{low-size}
+use Rattle.chains.proofs.Walks.{Leaf, leaf-run}
+use Rattle.rotator.specs.Members.{members, membersOf, chainAt, KeptAll, AllAnswer}
 use Rattle.rotator.proofs.Rotations.{rotate-lit, rotate-fixed, rotate-skip, rotate-un, rotate-all, rotate-size, members-bin, members-two, members-some, members-size, members-text, by-bin, by-other}
 
 -- ---- trees one after the other
@@ -102,7 +103,7 @@ module _ {s p : Place} {es : List E} {o o₁ t t₁ : List ℕ} (w : KeptAll s p
         bytes = rw (c .text, k) (w .bytes ∙ rw texts-all);
       }
 
--- ---- a leaf, and a node with one child: the tree alone
+-- ---- a leaf below a run: the tree alone
 
 pub rotate-leaf : (t : Bytes) (r : Expr Span) → Leaf (shapeIn r) → rotate (resolve t r) ≡ resolve t r
 rotate-leaf t (lit k s) h = rotate-lit k _
@@ -118,32 +119,21 @@ by-alone t kind (skip ss) h = sym (by-other kind _ (λ b e. refl))
 by-alone t kind (un u e) h = sym (by-other kind _ (λ b e. refl))
 by-alone t kind (bin b l r) h = absurd (h refl)
 
-leaf-not : {s : Shape} → Leaf s → s ≡ Two → ⊥
-leaf-not l e = subst Leaf e l
+not-two : (r : Expr Span) → (shapeIn (low r) ≡ Two → ⊥) → shapeIn r ≡ Two → ⊥
+not-two (lit k s) h e = h e
+not-two (fixed f) h e = h e
+not-two (skip ss) h e = h e
+not-two (un u r) h e = let z : _≡_ {A = ℕ} 0 1 = cc in omega arith
+not-two (bin b l r) h e = h e
 
-pub leaf-all : (t : Bytes) (kind : ℕ) {w : List ℕ} {i k x y n : ℕ} {r : Expr Span} → Found w i k x y n → At w i r → {s : Shape} → shapeOf k ≡ s → Leaf s → (a : Wrote) (p : Place) (o o′ u u′ : List ℕ)
-    → KeptAnswer a p (resolve t r) o o′ u u′ → AllAnswer a p (membersOf kind (resolve t r)) o o′ u u′
-leaf-all t kind {r} g at h l a p o o′ u u′ c =
-    all-same a p o o′ u u′ (by-alone t kind r (leaf-not (subst Leaf (sym (found-shape g at h)) l)))
-    (all-one a p (rotate (resolve t r)) o o′ u u′ (leaf-kept rotate t (rotate-leaf t) g at h l a p o o′ u u′ c))
+-- a run over a leaf: the tree alone, as it was
+pub leaf-all : (t : Bytes) (kind : ℕ) (r : Expr Span) → (shapeIn (low r) ≡ Two → ⊥) → (a : Wrote) (p : Place) (o o′ u u′ : List ℕ) → KeptAnswer a p (resolve t r) o o′ u u′ → AllAnswer a p (membersOf kind (resolve t r)) o o′ u u′
+leaf-all t kind r h a p o o′ u u′ c =
+    all-same a p o o′ u u′ (by-alone t kind r (not-two r h))
+    (all-one a p (rotate (resolve t r)) o o′ u u′ (subst (λ (z : E). KeptAnswer a p z o o′ u u′) (sym (leaf-run rotate rotate-un t (rotate-leaf t) r h)) c))
 
--- a kind of one child is no chain's
-one-two : (k : ℕ) → shapeOf k ≡ One → (b : Bin) → k ≡ binKind b → ⊥
-one-two k h b e = let z : One ≡ Two = sym h ∙ ap shapeOf e ∙ bin-shape b in let y : _≡_ {A = ℕ} 0 1 = cc in omega arith
-
-pub child-kept : (k : ℕ) → shapeOf k ≡ One → (q p : Place) (e : E) (o o₁ u u₁ : List ℕ) → KeptAll q p (membersOf k e) o o₁ u u₁ → Kept q p (rotate e) o o₁ u u₁
-child-kept k h q p e o o₁ u u₁ c = one-all (Done q) p (rotate e) o o₁ u u₁ (all-same (Done q) p o o₁ u u₁ (by-other k e (λ b d. absurd (one-two k h b d))) c)
-
-rotate-most : (e : E) → size (rotate e) ≤ size e
+pub rotate-most : (e : E) → size (rotate e) ≤ size e
 rotate-most e = omega (arith, rotate-size e)
-
-pub one-rotated : (t : Bytes) (kind : ℕ) {w : List ℕ} {i k x y n : ℕ} {r : Expr Span} (v : OneView w i k x y n r) {q p : Place} {o o₁ u u₁ : List ℕ} → Kept q p (rotate (resolve t (v .child))) o o₁ u u₁
-    → length o₁ ≡ length o → Fits p (resolve t r) o u → (a : Wrote) (o₂ : List ℕ) → RowAnswer a q (k, x, y) n o₁ o₂ → AllAnswer a p (membersOf kind (resolve t r)) o o₂ u u₁
-one-rotated t kind {r} v {q} {p} {o} {o₁} {u} {u₁} c lo h a o₂ g =
-    let e = resolve t (v .child) in
-    let s : shapeIn r ≡ One = ap shapeIn (v .is) in
-    all-same a p o o₂ u u₁ (by-alone t kind r (λ d. let z : One ≡ Two = sym s ∙ d in let y : _≡_ {A = ℕ} 0 1 = cc in omega arith))
-    (all-one a p (rotate (resolve t r)) o o₂ u u₁ (one-kept rotate rotate-most t v c lo h a _ o₂ (v .rows ∙ omega (arith, rotate-size e, size-resolve t (v .child))) (rotate-un (v .op) e) g))
 
 -- ---- a node with two children
 
@@ -202,14 +192,62 @@ module _ (t : Bytes) {w : List ℕ} {i k x y n : ℕ} {r : Expr Span} (v : TwoVi
       words = omega (arith, a .words);
     }
 
-    -- in no chain of its kind: the tree alone
-    pub two-rotated : (kind : ℕ) → (k ≡ kind → ⊥) → length o₂ ≡ length o → (a : Wrote) (o₃ : List ℕ)
-        → ClosedAnswer a s (v .op) (packs (p .text) (ends .init)) (packed (last-text both-all ends) (ends .last)) o₂ o₃ → AllAnswer a p (membersOf kind (resolve t r)) o o₃ u u₂
-    two-rotated kind ne lo a o₃ g =
-        let m : membersOf kind node ≡ rotate node ∷ [] = by-other kind node (λ b e. members-two (v .op) b _ _ (λ f. ne (v .kind ∙ sym (ap binKind f) ∙ sym e))) in
+    -- closed, it is rotated
+    pub two-rotated : length o₂ ≡ length o → (a : Wrote) (o₃ : List ℕ)
+        → ClosedAnswer a s (v .op) (packs (p .text) (ends .init)) (packed (last-text both-all ends) (ends .last)) o₂ o₃ → KeptAnswer a p (rotate (resolve t r)) o o₃ u u₂
+    two-rotated lo a o₃ g =
         let z = all-closed both-all ends (omega (arith, node-fits .rows)) (room lo) a (v .op) o₃ g in
-        subst (λ (z : E). AllAnswer a p (membersOf kind z) o o₃ u u₂) (sym (ap (resolve t) (v .is)))
-        (all-same a p o o₃ u u₂ (sym m) (all-one a p (rotate node) o o₃ u u₂ (subst (λ (z : E). KeptAnswer a p z o o₃ u u₂) (sym (rotate-all (v .op) node ends)) z)))
+        subst (λ (z : E). KeptAnswer a p (rotate z) o o₃ u u₂) (sym (ap (resolve t) (v .is))) (subst (λ (z : E). KeptAnswer a p z o o₃ u u₂) (sym (rotate-all (v .op) node ends)) z)
+
+-- ---- by the run over the node
+
+module _ (base root kind : ℕ) where
+  pub own-chain : base ≡ root → chainAt kind base root ≡ kind
+  unfolding chainAt
+  own-chain e = rw (eq-eqb base root e)
+
+  pub no-chain : (base ≡ root → ⊥) → chainAt kind base root ≡ 0
+  unfolding chainAt
+  no-chain h = rw (ne-eqb base root h)
+
+  -- in a chain of its kind there is no run over it
+  pub run-none : {k : ℕ} (r : Expr Span) → base + length (ups r) ≡ root → k ≡ headOf (low r) .0 → shapeIn (low r) ≡ Two → k ≡ chainAt kind base root → low r ≡ r
+  run-none (lit j s) e h l d = refl
+  run-none (fixed f) e h l d = refl
+  run-none (skip ss) e h l d = refl
+  run-none (bin b x y) e h l d = refl
+  run-none (un u r) e h l d = absurd (zero-two (low r) l (sym h ∙ d ∙ no-chain (omega arith)))
+    where
+      zero-two : (r : Expr Span) → shapeIn r ≡ Two → headOf r .0 ≡ 0 → ⊥
+      zero-two (lit j s) l z = let y : _≡_ {A = ℕ} 0 1 = cc in omega arith
+      zero-two (fixed f) l z = let y : _≡_ {A = ℕ} 0 1 = cc in omega arith
+      zero-two (skip ss) l z = let y : _≡_ {A = ℕ} 0 1 = cc in omega arith
+      zero-two (un u r) l z = let y : _≡_ {A = ℕ} 0 1 = cc in omega arith
+      zero-two (bin Seq x y) l z = omega arith
+      zero-two (bin Choice x y) l z = omega arith
+
+  pub run-same : {k : ℕ} (r : Expr Span) → base + length (ups r) ≡ root → low r ≡ r → k ≡ chainAt kind base root → k ≡ kind
+  run-same r e l d = d ∙ own-chain (omega (arith, ap size l, low-size r))
+
+  -- in no chain of its kind: the tree alone
+  alone : {k : ℕ} (t : Bytes) (r : Expr Span) → base + length (ups r) ≡ root → k ≡ headOf (low r) .0 → (k ≡ chainAt kind base root → ⊥) → rotate (resolve t r) ∷ [] ≡ membersOf kind (resolve t r)
+  alone t (lit j s) e h n = by-alone t kind (lit j s) (λ d. let y : _≡_ {A = ℕ} 0 1 = cc in omega arith)
+  alone t (fixed f) e h n = by-alone t kind (fixed f) (λ d. let y : _≡_ {A = ℕ} 0 1 = cc in omega arith)
+  alone t (skip ss) e h n = by-alone t kind (skip ss) (λ d. let y : _≡_ {A = ℕ} 0 1 = cc in omega arith)
+  alone t (un u r) e h n = by-alone t kind (un u r) (λ d. let y : _≡_ {A = ℕ} 0 1 = cc in omega arith)
+  alone t (bin b x y) e h n = sym (by-other kind _ (λ c d. members-two b c _ _ (λ f. n (h ∙ sym (ap binKind f) ∙ sym d ∙ sym (own-chain (omega arith))))))
+
+  pub run-rotated : {k : ℕ} (t : Bytes) (r : Expr Span) → base + length (ups r) ≡ root → k ≡ headOf (low r) .0 → (k ≡ chainAt kind base root → ⊥) → (a : Wrote) (p : Place) (o o′ u u′ : List ℕ)
+      → KeptAnswer a p (rotate (resolve t r)) o o′ u u′ → AllAnswer a p (membersOf kind (resolve t r)) o o′ u u′
+  run-rotated t r e h n a p o o′ u u′ c = all-same a p o o′ u u′ (alone t r e h n) (all-one a p (rotate (resolve t r)) o o′ u u′ c)
+
+-- in a chain of its kind: the members of both sides
+pub chain-all : (t : Bytes) {w : List ℕ} {i k x y n : ℕ} (r : Expr Span) (v : TwoView w i k x y n (low r)) {p q : Place} {o o₁ u u₁ : List ℕ} → KeptAll q p (membersOf k (resolve t (v .left))) o o₁ u u₁
+    → Fits p (resolve t (low r)) o u → {s : Place} {o₂ u₂ : List ℕ} → KeptAll s q (membersOf k (resolve t (v .right))) o₁ o₂ u₁ u₂ → (base root kind : ℕ) → base + length (ups r) ≡ root
+    → k ≡ chainAt kind base root → AllAnswer (Done s) p (membersOf kind (resolve t r)) o o₂ u u₂
+chain-all t r v {p} {o} {u} c h {s} {o₂} {u₂} d base root kind e z =
+    let l : low r ≡ r = run-none base root kind r e (v .kind ∙ sym (ap (λ (z : Expr Span). headOf z .0) (v .is))) (ap shapeIn (v .is)) z in
+    subst (λ (z : Expr Span). AllAnswer (Done s) p (membersOf kind (resolve t z)) o o₂ u u₂) l (same-all t v c h d kind (run-same base root kind r e l z))
 
 -- no chain's kind
 pub alone-kept : (a : Wrote) (p : Place) (e : E) (o o′ u u′ : List ℕ) → AllAnswer a p (membersOf 0 e) o o′ u u′ → KeptAnswer a p (rotate e) o o′ u u′

@@ -27,6 +27,10 @@ members Choice (bin Choice l r) = members Choice l ++ members Choice r
 unfoldable pub membersOf : ℕ → E → List E
 membersOf k e = cond (eqb k 8) (members Seq e) (cond (eqb k 9) (members Choice e) (rotate e ∷ []))
 
+-- the chain's kind word at the row `base` below a run that ends at `root`: a node over others of one child is in no chain
+unfoldable pub chainAt : ℕ → ℕ → ℕ → ℕ
+chainAt k base root = cond (eqb base root) k 0
+
 -- the packed trees es stand from p to q, after what was there
 pub record KeptAll (q p : Place) (es : List E) (o o′ t t′ : List ℕ) : Type 0 where
   pub rows : q .rows ≡ p .rows + sizes es

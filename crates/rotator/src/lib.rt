@@ -1,4 +1,5 @@
 // Rotate: chains of Seq, and of Choice, nest to the right.
+ghost use mathlib.Core.Path.{_≡_};
 ghost use lib.ListN.{length};
 ghost use Rattle.grammar.specs.Tree.{Expr};
 ghost use Rattle.grammar.specs.Rows.{Span};
@@ -7,11 +8,18 @@ ghost use Rattle.grammar.specs.Steps.{rotate};
 ghost use Rattle.rows.specs.Rows.{Inside, At};
 ghost use Rattle.writing.specs.Writes.{Areas};
 ghost use Rattle.writing.specs.Keeps.{KeptAnswer, Ready};
-ghost use Rattle.rotator.specs.Members.{membersOf, AllAnswer};
+ghost use Rattle.rotator.specs.Members.{membersOf, chainAt, AllAnswer};
 use rows::Lookup;
 use rows::Shape;
 use writing::Place;
 use writing::Wrote;
+
+// The kind of the chain that goes on at the row below a run: `kind`, or none (0) where there is a run.
+fn chain_at(kind: u32, base: usize, root: usize) -> u32
+    ensures { λ r. ⌜ r ≡ chainAt kind base root ⌝ }
+{
+    if base == root { kind } else { 0 }
+}
 
 // Writes the subtree of row `root`, which fits, at p, its literals packed: the rotated tree, or, where the root is a node of the
 // chain of `kind`, its members, each rotated, one after the other.
@@ -29,49 +37,45 @@ fn walk(
     requires { ⌜ Areas (now out) (now lits) ⌝ }
     ensures { λ a. ⌜ ((r : Expr Span) → At (now (rows .entry)) root r → AllAnswer a p (membersOf kind (resolve (now (text .entry)) r)) (now (out .entry)) (now (out .exit)) (now (lits .entry)) (now (lits .exit))) ⌝ }
 {
+    let base = chains::below(rows, root);
     let Lookup::Row {
         kind: k,
-        x,
-        y,
+        x: _,
+        y: _,
         size,
-    } = rows::row_at(rows, root)
+    } = rows::row_at(rows, base)
     else {
         return Wrote::Full;
     };
-    match rows::shape_of(k) {
-        Shape::Lit => writing::put_lit(text, x as usize, y as usize, k, out, lits, p),
-        Shape::Num => writing::put_row(out, p, k, x, y, 1),
-        Shape::Skips => writing::keep(rows, text, root, out, lits, p),
-        Shape::One => {
-            let Wrote::Done(q) = walk(rows, text, root - 1, k, out, lits, p) else {
-                return Wrote::Full;
-            };
-            writing::put_row(out, q, k, x, y, size)
+    if let Shape::Two = rows::shape_of(k) {
+        // there are as many rows as before: those that are missing in the end close the chain
+        let end = p.rows + size as usize;
+        let right = base - 1;
+        let Lookup::Row {
+            kind: _,
+            x: _,
+            y: _,
+            size: n,
+        } = rows::row_at(rows, right)
+        else {
+            return Wrote::Full;
+        };
+        let Wrote::Done(q) = walk(rows, text, right - n as usize, k, out, lits, p) else {
+            return Wrote::Full;
+        };
+        let Wrote::Done(s) = walk(rows, text, right, k, out, lits, q) else {
+            return Wrote::Full;
+        };
+        let chain = chain_at(kind, base, root);
+        if k == chain {
+            return Wrote::Done(s);
         }
-        Shape::Two => {
-            // there are as many rows as before: those that are missing in the end close the chain
-            let end = p.rows + size as usize;
-            let right = root - 1;
-            let Lookup::Row {
-                kind: _,
-                x: _,
-                y: _,
-                size: n,
-            } = rows::row_at(rows, right)
-            else {
-                return Wrote::Full;
-            };
-            let Wrote::Done(q) = walk(rows, text, right - n as usize, k, out, lits, p) else {
-                return Wrote::Full;
-            };
-            let Wrote::Done(s) = walk(rows, text, right, k, out, lits, q) else {
-                return Wrote::Full;
-            };
-            if k == kind {
-                return Wrote::Done(s);
-            }
-            chains::close(out, s, k, end - s.rows)
-        }
+        let Wrote::Done(e) = chains::close(out, s, k, end - s.rows) else {
+            return Wrote::Full;
+        };
+        chains::raise(rows, base, root, out, p, e)
+    } else {
+        writing::keep(rows, text, root, out, lits, p)
     }
 }
 
