@@ -8,7 +8,6 @@
 // words and text, and a byte: 1 if everything of the output areas past the answer is unchanged, else 0. Words are little-endian.
 //
 // A case that is cut off ends the run, and so does one with more than 1,040 rule words, 16,400 row words or 65,600 bytes of text.
-mod areas;
 mod input;
 mod output;
 

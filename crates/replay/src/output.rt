@@ -3,7 +3,6 @@ ghost use mathlib.Core.Path.{_≡_};
 ghost use Prim.Native.Nat.{_+_, _*_, _≤_};
 ghost use lib.ListN.{length};
 ghost use Rattle.replay.specs.Run.{Outs};
-use crate::areas;
 use optimizer::Answer;
 
 pub fn area() -> [u8; 131072] {

@@ -1,8 +1,8 @@
 use borrow.Author.Needs.{needs}
 use Prim.Native.Nat.{_≤_, _-_}
 use lib.ListN.{length}
-use Rattle.replay.proofs.areas.same_words.Statement.{statement}
-use Rattle.replay.proofs.areas.same_words.Tie as tie
+use Rattle.areas.proofs.same_words.Statement.{statement}
+use Rattle.areas.proofs.same_words.Tie as tie
 
 abbrev Inv-loop : tie.InvT-loop
 Inv-loop area other₀ i₀ other i = i ≤ length area

@@ -1,20 +1,25 @@
 use borrow.Author.Needs.{needs}
 use Prim.Native.Nat.{_≤_, _-_}
-use lib.ListN.{length}
-use Rattle.replay.proofs.areas.same_bytes.Statement.{statement}
-use Rattle.replay.proofs.areas.same_bytes.Tie as tie
+use Rattle.show.proofs.print.some.Statement.{statement}
+use Rattle.show.proofs.print.some.Tie as tie
 
 abbrev Inv-loop : tie.InvT-loop
-Inv-loop area other₀ i₀ other i = i ≤ length area
+Inv-loop rows first from to literals i₀ i = i ≤ to
 
 abbrev μ-loop : tie.MeasureT-loop
-μ-loop area other₀ i₀ other i = length area - i
+μ-loop rows first from to literals i₀ i = to - i
 
 loop-holds : tie.Need-loop-holds Inv-loop μ-loop
 loop-holds c = search needs
 
-shared-slice-read-other : tie.Need-shared-slice-read-other Inv-loop μ-loop
-shared-slice-read-other c = search needs
+mul-row : tie.Need-mul-row Inv-loop μ-loop
+mul-row c = search needs
+
+add-row : tie.Need-add-row Inv-loop μ-loop
+add-row c = search needs
+
+row-requires : tie.Need-row-requires Inv-loop μ-loop
+row-requires c κs = search needs
 
 add-i : tie.Need-add-i Inv-loop μ-loop
 add-i c = search needs
@@ -28,14 +33,16 @@ loop-again c = search needs
 returns : tie.Need-returns Inv-loop μ-loop
 returns c = search needs
 
-pub same-bytes-spec : {M : Type 1} → statement M
-same-bytes-spec =
+pub some-spec : {M : Type 1} → statement M
+some-spec =
     tie.close
     (tie.spec
     Inv-loop
     μ-loop
     loop-holds
-    shared-slice-read-other
+    mul-row
+    add-row
+    row-requires
     add-i
     loop-less
     loop-again

@@ -1,4 +1,4 @@
-// The lent areas: 16 elements above full size each, so that any size that is asked for is a part of them.
+// Areas for the programs to lend: 16 elements above full size each, so that any size that is asked for is a part of them.
 ghost use mathlib.Core.Path.{_≡_};
 ghost use Prim.Native.Nat.{_≤_};
 ghost use Rattle.io.specs.Counts.{Counts};

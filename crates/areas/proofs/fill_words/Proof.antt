@@ -4,8 +4,8 @@ use native.Mathlib.Omega.{arith}
 use Prim.Native.Nat.{_≤_, _-_}
 use mathlib.Core.Path.{_≡_}
 use lib.ListN.{length}
-use Rattle.replay.proofs.areas.fill_words.Statement.{statement}
-use Rattle.replay.proofs.areas.fill_words.Tie as tie
+use Rattle.areas.proofs.fill_words.Statement.{statement}
+use Rattle.areas.proofs.fill_words.Tie as tie
 
 abbrev Inv-loop : tie.InvT-loop
 Inv-loop area₀ i₀ area i = (i ≤ length area) × (length area ≡ length area₀)
