@@ -1,0 +1,14 @@
+use borrow.Author.Needs.{needs}
+use mathlib.Core.Path.{sym}
+use lib.Seq.{length-take-le}
+use Rattle.areas.proofs.words_lent.Statement.{statement}
+use Rattle.areas.proofs.words_lent.Tie as tie
+
+size-requires : tie.Need-size-requires
+size-requires c κs = search needs
+
+returns : tie.Need-returns
+returns c = (c .size .ensures, sym (length-take-le _ _ (c .size .ensures)))
+
+pub words-lent-spec : {M : Type 1} → statement M
+words-lent-spec = tie.close (tie.spec size-requires returns)
