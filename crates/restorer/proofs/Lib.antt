@@ -6,3 +6,4 @@ pub mod Visits
 pub mod Ends
 pub mod Showing
 pub mod Restores
+pub mod Stills

@@ -24,8 +24,8 @@ use Rattle.names.specs.declared.Found.{Found}
 use Rattle.names.specs.declared.Found.the-variants.{At, Nothing}
 use Rattle.names.proofs.Finding.{Looked, looked, not-found}
 use Rattle.restorer.specs.Search.{stateOf, Settled}
-use Rattle.restorer.specs.Lends.{Lent}
-use Rattle.restorer.specs.Restores.{isGuard, guardedIf, showsThrough, saysFound, Sure}
+use Rattle.restorer.specs.Lends.{Lent, Marked, Settles}
+use Rattle.restorer.specs.Restores.{isGuard, guardedIf, showsThrough, saysFound, Sure, Known}
 use Rattle.restorer.proofs.Memories.{rule-resolved}
 use Rattle.restorer.proofs.Marks.{below-resolved}
 
@@ -190,3 +190,13 @@ module _ {rules rows : List ℕ} (text : Bytes) (t : Table Span) (lent : Lent t 
           back : (member key stackNames ≡ true) ⊎ (saysFound m f ≡ true) → Reaches (resolveTable text t) (lit Ident key)
           back (inl c) = at-name c
           back (inr c) = yes-says key f n c
+
+-- so they are known of what is lent
+pub known : {rules rows text m : List ℕ} → Marked rules rows text m → Settles rules rows text m → Known rules m rows text
+known {text = text} {m = m} g s =
+    record {
+      table = resolveTable text (g .table);
+      sure = sure text (g .table) (g .lent) m (s .settled (g .table) (g .lent));
+      hashed = g .hashed;
+      inside = g .inside;
+    }

@@ -12,7 +12,7 @@ ghost use Rattle.grammar.specs.Basic.{Bytes};
 ghost use Rattle.grammar.specs.Text.{bytesAt};
 ghost use Rattle.grammar.specs.Stack.{changes};
 ghost use Rattle.grammar.specs.Steps as steps;
-ghost use Rattle.rows.specs.Rows.{Inside, At, Stands, shapeOf};
+ghost use Rattle.rows.specs.Rows.{Inside, At, Stands, shapeOf, kindAt, xAt, yAt};
 ghost use Rattle.rows.specs.declared.Shape.the-variants.{One, Two};
 ghost use Rattle.writing.specs.Writes.{Room, Answer};
 ghost use Rattle.names.specs.Names.{marked, Hashed};
@@ -460,6 +460,50 @@ pub fn put(
     }
 }
 
+// Whether the stack can change through the name of row i, which is an Ident.
+fn name_alters(rules: &[u32], marks: &[u32], rows: &[u32], text: &[u8], i: usize) -> bool
+    requires { ⌜ Known (now rules) (now marks) (now rows) (now text) ⌝ }
+    requires { ⌜ i < length (now rows) / 4 ⌝ }
+    requires { ⌜ kindAt (now rows) i ≡ 3 ⌝ }
+    ensures { λ b. ⌜ ((t : Table Bytes) → Sure t (now (rules .entry)) (now (text .entry)) (now (marks .entry)) → b ≡ changes t (tree.lit tree.Ident (bytesAt (now (text .entry)) (xAt (now (rows .entry)) i, yAt (now (rows .entry)) i)))) ⌝ }
+{
+    let at = i * 4;
+    let x = wide(rows[at + 1]);
+    let n = wide(rows[at + 2]);
+    through(rules, marks, text, x, n)
+}
+
+// Whether restoring the subtree of row `root` can alter it: some row is a Push or a name through which the stack can change.
+fn alters(rules: &[u32], marks: &[u32], rows: &[u32], text: &[u8], root: usize) -> bool
+    requires { ⌜ Known (now rules) (now marks) (now rows) (now text) ⌝ }
+    requires { ⌜ Stands (now rows) root ⌝ }
+    ensures { λ b. ⌜ (b ≡ false → (t : Table Bytes) (r : Expr Span) → Sure t (now (rules .entry)) (now (text .entry)) (now (marks .entry)) → At (now (rows .entry)) root r → steps.restore t (resolve (now (text .entry)) r) ≡ resolve (now (text .entry)) r) ⌝ }
+{
+    let Lookup::Row {
+        kind: _,
+        x: _,
+        y: _,
+        size,
+    } = rows::row_at(rows, root)
+    else {
+        return true;
+    };
+    let mut i = root + 1 - wide(size);
+    while i <= root {
+        let kind = rows[i * 4];
+        if kind == 18 {
+            return true;
+        }
+        if kind == 3 {
+            if name_alters(rules, marks, rows, text, i) {
+                return true;
+            }
+        }
+        i += 1;
+    }
+    false
+}
+
 // Step 7 on the subtree of row `root`, packed at p. The table is the one that is lent, and its rules are settled.
 pub fn restore(
     rules: &[u32],
@@ -477,6 +521,10 @@ pub fn restore(
     requires { ⌜ Room p (now out) (now lits) ⌝ }
     ensures { λ a. ⌜ ((t : Table Span) (r : Expr Span) → Lent t (now (rules .entry)) (now (rows .entry)) → At (now (rows .entry)) root r → Answer a p (steps.restore (resolveTable (now (text .entry)) t) (resolve (now (text .entry)) r)) (now (out .entry)) (now (out .exit)) (now (lits .entry)) (now (lits .exit))) ⌝ }
 {
+    // nearly always: nothing can change the stack
+    if !alters(rules, marks, rows, text, root) {
+        return writing::copy(rows, text, root, out, lits, p);
+    }
     let Restored::To(q, _) = put(rules, marks, rows, text, root, out, lits, p) else {
         return Wrote::Full;
     };

@@ -1,28 +1,18 @@
--- The settled marks say what shows of a name; the walk does the rest. Assumes nothing.
+-- A tree through which the stack cannot change is copied; of another the settled marks say what shows of a name, and the walk does the rest. Assumes nothing.
 use Rattle.grammar.specs.Table.{resolveTable}
-use Rattle.restorer.proofs.Showing.{sure}
+use Rattle.restorer.proofs.Showing.{sure, known}
 use Rattle.restorer.proofs.Restores.{no-room, wrote-done}
+use Rattle.restorer.proofs.Stills.{answer-still}
+use borrow.Author.Tests.{not-true}
 use borrow.Author.Needs.{needs}
 use Rattle.restorer.proofs.restore.Statement.{statement}
 use Rattle.restorer.proofs.restore.Tie as tie
 
-put-requires : tie.Need-put-requires
-put-requires c κs = let s = c .before .before .before .before .before .before .before .before in
-    let g = s .pre .0 in (
-      record {
-        table = resolveTable (s .args .text .now) (g .table);
-        sure = sure (s .args .text .now) (g .table) (g .lent) (s .args .marks .now) (s .pre .1 .0 .settled (g .table) (g .lent));
-        hashed = g .hashed;
-        inside = g .inside;
-      },
-      s .pre .1 .1,
-    )
+alters-requires : tie.Need-alters-requires
+alters-requires c κs = let s = c .before .before .before .before .before .before in (known (s .pre .0) (s .pre .1 .0), s .pre .1 .1 .0)
 
-enum-known-q : tie.Need-enum-known-q
-enum-known-q c = search needs
-
-enum-told : tie.Need-enum-told
-enum-told c = search needs
+copy-requires : tie.Need-copy-requires
+copy-requires c κs = let s = c .before .before .before .before .before .before .before .before .before .before in (s .pre .0 .inside, s .pre .1 .1)
 
 same-length : tie.Need-same-length
 same-length c = search needs
@@ -31,7 +21,16 @@ same-length-2 : tie.Need-same-length-2
 same-length-2 c = search needs
 
 returns : tie.Need-returns
-returns c = λ u r l a. no-room _ _ _ _ _ _ _ (c .enum-told .given .1) (c .before .before .before .before .before .before .put .ensures (resolveTable (c .before .before .before .before .before .before .before .before .before .before .before .before .before .before .before .args .text .now) u) r (sure (c .before .before .before .before .before .before .before .before .before .before .before .before .before .before .before .args .text .now) u l (c .before .before .before .before .before .before .before .before .before .before .before .before .before .before .before .args .marks .now) (c .before .before .before .before .before .before .before .before .before .before .before .before .before .before .before .pre .1 .0 .settled u l)) a)
+returns c = λ u r l a. answer-still (c .before .before .before .before .copy .result) _ _ _ _ _ (c .before .before .before .before .before .before .before .before .alters .ensures (not-true _ (c .before .before .before .before .before .before .before .if1 .taken)) (resolveTable (c .before .before .before .before .before .before .before .before .before .before .before .before .before .before .before .args .text .now) u) r (sure (c .before .before .before .before .before .before .before .before .before .before .before .before .before .before .before .args .text .now) u l (c .before .before .before .before .before .before .before .before .before .before .before .before .before .before .before .args .marks .now) (c .before .before .before .before .before .before .before .before .before .before .before .before .before .before .before .pre .1 .0 .settled u l)) a) (c .before .before .before .before .copy .ensures r a)
+
+put-requires : tie.Need-put-requires
+put-requires c κs = let s = c .before .before .before .before .before .before .before .before .before .before in (known (s .pre .0) (s .pre .1 .0), s .pre .1 .1)
+
+enum-known-q : tie.Need-enum-known-q
+enum-known-q c = search needs
+
+enum-told : tie.Need-enum-told
+enum-told c = search needs
 
 same-length-3 : tie.Need-same-length-3
 same-length-3 c = search needs
@@ -40,18 +39,32 @@ same-length-4 : tie.Need-same-length-4
 same-length-4 c = search needs
 
 returns-2 : tie.Need-returns-2
-returns-2 c = λ u r l a. wrote-done _ _ _ _ _ _ _ (c .before .q .given .1) (c .before .before .before .before .before .before .before .put .ensures (resolveTable (c .before .before .before .before .before .before .before .before .before .before .before .before .before .before .before .before .args .text .now) u) r (sure (c .before .before .before .before .before .before .before .before .before .before .before .before .before .before .before .before .args .text .now) u l (c .before .before .before .before .before .before .before .before .before .before .before .before .before .before .before .before .args .marks .now) (c .before .before .before .before .before .before .before .before .before .before .before .before .before .before .before .before .pre .1 .0 .settled u l)) a)
+returns-2 c = λ u r l a. no-room _ _ _ _ _ _ _ (c .enum-told .given .1) (c .before .before .before .before .before .before .put .ensures (resolveTable (c .before .before .before .before .before .before .before .before .before .before .before .before .before .before .before .before .before .args .text .now) u) r (sure (c .before .before .before .before .before .before .before .before .before .before .before .before .before .before .before .before .before .args .text .now) u l (c .before .before .before .before .before .before .before .before .before .before .before .before .before .before .before .before .before .args .marks .now) (c .before .before .before .before .before .before .before .before .before .before .before .before .before .before .before .before .before .pre .1 .0 .settled u l)) a)
+
+same-length-5 : tie.Need-same-length-5
+same-length-5 c = search needs
+
+same-length-6 : tie.Need-same-length-6
+same-length-6 c = search needs
+
+returns-3 : tie.Need-returns-3
+returns-3 c = λ u r l a. wrote-done _ _ _ _ _ _ _ (c .before .q .given .1) (c .before .before .before .before .before .before .before .put .ensures (resolveTable (c .before .before .before .before .before .before .before .before .before .before .before .before .before .before .before .before .before .before .args .text .now) u) r (sure (c .before .before .before .before .before .before .before .before .before .before .before .before .before .before .before .before .before .before .args .text .now) u l (c .before .before .before .before .before .before .before .before .before .before .before .before .before .before .before .before .before .before .args .marks .now) (c .before .before .before .before .before .before .before .before .before .before .before .before .before .before .before .before .before .before .pre .1 .0 .settled u l)) a)
 
 pub restore-spec : {M : Type 1} → statement M
 restore-spec =
     tie.close
     (tie.spec
-    put-requires
-    enum-known-q
-    enum-told
+    alters-requires
+    copy-requires
     same-length
     same-length-2
     returns
+    put-requires
+    enum-known-q
+    enum-told
     same-length-3
     same-length-4
-    returns-2)
+    returns-2
+    same-length-5
+    same-length-6
+    returns-3)
