@@ -1,4 +1,4 @@
-// The whole call for hosts in C and Rust.
+// The whole call for hosts in C and Rust: include/arvedun.h says what they owe, rust/arvedun.rs is a safe wrapper.
 ghost use mathlib.Core.Path.{_≡_};
 ghost use Rattle.grammar.specs.Optimize.{optimize};
 ghost use Rattle.refusals.specs.Check.{lent};

@@ -1,0 +1,127 @@
+/* Arvedun: takes a grammar as rules, rows and text in lent memory, and gives it back optimized, or one of eight refusals.
+   C99, self-contained. Link libarvedun.a (`rt staticlib arvedun`), for x86-64 Linux. Nothing is allocated, read or written but what
+   is lent, and nothing is kept between calls: calls on areas of their own may run in several threads at once. */
+#ifndef ARVEDUN_H
+#define ARVEDUN_H
+
+#include <stddef.h>
+#include <stdint.h>
+
+#ifdef __cplusplus
+extern "C" {
+#endif
+
+/* Full size: 256 rules, 4,096 rows, 65,536 bytes of text. A rule and a row are four words of 32 bits each. */
+#define ARVEDUN_RULES 256
+#define ARVEDUN_ROWS 4096
+#define ARVEDUN_RULE_WORDS 1024
+#define ARVEDUN_ROW_WORDS 16384
+#define ARVEDUN_TEXT_BYTES 65536
+#define ARVEDUN_MARK_WORDS 1024
+
+/* The stack that the calling thread must have left. FIGURE TO BE SET once the whole call is measured. */
+#define ARVEDUN_STACK_BYTES (4 * 1024 * 1024) /* 4 MiB */
+
+/* A rule: offset and length of its name in the text, its type, its number of rows. Rules' rows follow each other in rule order. */
+#define ARVEDUN_NORMAL 0
+#define ARVEDUN_SILENT 1
+#define ARVEDUN_ATOMIC 2
+#define ARVEDUN_COMPOUND_ATOMIC 3
+#define ARVEDUN_NON_ATOMIC 4
+
+/* A row: kind, x, y, size. Rows stand in postfix order: children first, left before right, the rule's root last. The size counts the
+   rows of the subtree, itself included. Words that a kind doesn't use are 0. Names and literals are ASCII.
+                                                    x, y                                     children */
+#define ARVEDUN_STR 0            /*                 offset, length in the text               none */
+#define ARVEDUN_INSENS 1         /*                 offset, length                           none */
+#define ARVEDUN_RANGE 2          /*                 first, last byte                         none */
+#define ARVEDUN_IDENT 3          /*                 offset, length                           none */
+#define ARVEDUN_PEEK_SLICE 4     /* without end:    start, 0 (two's complement)              none */
+#define ARVEDUN_PEEK_SLICE_END 5 /* with end:       start, end (two's complement)            none */
+#define ARVEDUN_POS_PRED 6       /*                 0, 0                                     1 */
+#define ARVEDUN_NEG_PRED 7       /*                 0, 0                                     1 */
+#define ARVEDUN_SEQ 8            /*                 0, 0                                     2 */
+#define ARVEDUN_CHOICE 9         /*                 0, 0                                     2 */
+#define ARVEDUN_OPT 10           /*                 0, 0                                     1 */
+#define ARVEDUN_REP 11           /*                 0, 0                                     1 */
+#define ARVEDUN_REP_ONCE 12      /* never answered  0, 0                                     1 */
+#define ARVEDUN_REP_EXACT 13     /* never answered  count, 0                                 1 */
+#define ARVEDUN_REP_MIN 14       /* never answered  count, 0                                 1 */
+#define ARVEDUN_REP_MAX 15       /* never answered  count, 0                                 1 */
+#define ARVEDUN_REP_MIN_MAX 16   /* never answered  min, max                                 1 */
+#define ARVEDUN_SKIP 17          /*                 number of strings, 0                     that many STR rows */
+#define ARVEDUN_PUSH 18          /*                 0, 0                                     1 */
+#define ARVEDUN_RESTORE_ON_ERR 19 /* never lent     0, 0                                     1 */
+
+/* The number of an answer: 0, or the lowest of the refusals that apply. */
+#define ARVEDUN_DONE 0
+/* an output or work area is below full size */
+#define ARVEDUN_REFUSED_AREA 1
+/* a word count isn't a multiple of four, or the input is above full size */
+#define ARVEDUN_REFUSED_SIZE 2
+/* a type above 4, a kind above 18, an unused word not 0, a size or child run that is wrong, a SKIP child that isn't STR, rules that
+   don't use up the rows, a rule whose rows aren't one tree */
+#define ARVEDUN_REFUSED_SHAPE 3
+/* a name or literal whose offset plus length, as whole numbers, is above the text's length, or with a byte above 127; a RANGE word
+   above 127 */
+#define ARVEDUN_REFUSED_TEXT 4
+/* two rules with equal names, or a rule named ANY, DROP or POP */
+#define ARVEDUN_REFUSED_NAMES 5
+/* REP_EXACT 0, REP_MAX 0, or REP_MIN_MAX with max 0 */
+#define ARVEDUN_REFUSED_COUNT 6
+/* a skip list meets a rule that is already being read */
+#define ARVEDUN_REFUSED_CYCLE 7
+/* packed text or rows above full size, in the input or after some step */
+#define ARVEDUN_REFUSED_FULL 8
+
+/* The steps, in order; step i's rows before and after are report[2 * i] and report[2 * i + 1]. */
+#define ARVEDUN_STEP_ROTATE 0
+#define ARVEDUN_STEP_SKIP 1
+#define ARVEDUN_STEP_UNROLL 2
+#define ARVEDUN_STEP_CONCATENATE 3
+#define ARVEDUN_STEP_FACTOR 4
+#define ARVEDUN_STEP_LIST 5
+#define ARVEDUN_STEP_RESTORE 6
+#define ARVEDUN_STEPS 7
+
+/* A refusal: its number, three zero counts and a zero report; the output areas are unchanged. Else 0, the counts of rules, rows and
+   text bytes, and the report. */
+typedef struct {
+    uint32_t number;
+    uint32_t rules;
+    uint32_t rows;
+    uint32_t text;
+    uint32_t report[2 * ARVEDUN_STEPS];
+} ArvedunAnswer;
+
+/* The call. Lengths count words, and bytes of text. rules, rows and text are the grammar; they are only read.
+   The answer stands in front of out_rules (4 * answer.rules words), out_rows (4 * answer.rows words) and out_text (answer.text bytes);
+   what lies past it there is unchanged. Its text is packed: for each rule its name, then its rows' literals, no gaps.
+   a_rules to b_text are two work tables, marks is a work area; they may hold anything before and after.
+   Full size: 1,024, 16,384 and 65,536 for each table, 1,024 for marks. Larger areas are fine, smaller ones are refusal 1.
+
+   No caller need check rules, rows and text first. What a caller owes:
+   - Every pointer is not null and is aligned (four bytes for words), also where its length is 0, and that many elements lie there.
+   - The ten output and work areas overlap neither each other nor rules, rows and text.
+   - During the call nothing else writes to any of the thirteen, and nothing else reads the ten.
+   - ARVEDUN_STACK_BYTES of stack are left. */
+ArvedunAnswer arvedun_optimize(
+    const uint32_t *rules, size_t rules_len,
+    const uint32_t *rows, size_t rows_len,
+    const uint8_t *text, size_t text_len,
+    uint32_t *out_rules, size_t out_rules_len,
+    uint32_t *out_rows, size_t out_rows_len,
+    uint8_t *out_text, size_t out_text_len,
+    uint32_t *a_rules, size_t a_rules_len,
+    uint32_t *a_rows, size_t a_rows_len,
+    uint8_t *a_text, size_t a_text_len,
+    uint32_t *b_rules, size_t b_rules_len,
+    uint32_t *b_rows, size_t b_rows_len,
+    uint8_t *b_text, size_t b_text_len,
+    uint32_t *marks, size_t marks_len);
+
+#ifdef __cplusplus
+}
+#endif
+
+#endif
