@@ -340,7 +340,7 @@ pub fn at(
     choice(rows, text, left, right, tight, out, lits, p)
 }
 
-// Writes the factored subtree of row `root` of a rule of that type at p, its literals packed: in most no case fits, and a copy takes a fifth of a walk's time.
+// Writes the factored subtree of row `root` of a rule of that type at p, its literals packed: in most no case fits, and a copy is cheaper than a walk.
 pub fn factor(
     rows: &[u32],
     text: &[u8],

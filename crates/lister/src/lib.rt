@@ -1,17 +1,17 @@
 // List, over a whole subtree: (a~b)* ~ a becomes a ~ (b~a)*.
 ghost use mathlib.Core.Path.{_≡_};
 ghost use mathlib.Core.Bool.{false};
-ghost use Prim.Native.Nat.{_+_, _-_, _*_, _/_, _^_, _≤_, _<_};
+ghost use mathlib.Core.Option.{none};
+ghost use Prim.Native.Nat.{_+_, _-_, _*_, _^_, _≤_, _<_};
 ghost use lib.ListN.{length, take, drop};
-ghost use Rattle.grammar.specs.Basic.{Bytes};
 ghost use Rattle.grammar.specs.Tree.{Expr, E, Bin, bin, binKind};
 ghost use Rattle.grammar.specs.Rows.{Span};
 ghost use Rattle.grammar.specs.Text.{resolve};
 ghost use Rattle.grammar.specs.Steps.{orSame, list, list?};
-ghost use Rattle.rows.specs.Rows.{Tells, Inside, At, Stands, StandsIn};
+ghost use Rattle.rows.specs.Rows.{kindAt, Tells, Inside, At, Stands, StandsIn};
 ghost use Rattle.writing.specs.Writes.{stored, Areas};
 ghost use Rattle.writing.specs.Keeps.{KeptAnswer, Ready};
-ghost use Rattle.lister.specs.Loops.{Loops, LoopRow};
+ghost use Rattle.lister.specs.Loops.{Loops};
 ghost use Rattle.lister.specs.Mends.{Pair, Pairs, Movable, MendedAnswer};
 use rows::Lookup;
 use rows::Shape;
@@ -105,22 +105,31 @@ pub fn finish(out: &mut [u32], lits: &[u8], p: Place, q: Place, s: Place, kind: 
     writing::put_row(out, s, 8, 0, 0, size)
 }
 
-// Whether the row before row i ends a Seq, and row i a loop over it.
-pub fn loop_row(rows: &[u32], i: usize) -> bool
-    requires { ⌜ (0 < i) × (i < length (now rows) / 4) ⌝ }
-    ensures { λ b. ⌜ Tells b (LoopRow (now (rows .entry)) i) ⌝ }
+// Whether the Seq of row i begins with a loop that is listed.
+pub fn fires(rows: &[u32], text: &[u8], i: usize) -> bool
+    requires { ⌜ Inside (now rows) (length (now text)) ⌝ }
+    requires { ⌜ Stands (now rows) i ⌝ }
+    requires { ⌜ kindAt (now rows) i ≡ 8 ⌝ }
+    ensures { λ b. ⌜ (b ≡ false → (x : Expr Span) → At (now (rows .entry)) i x → list? (resolve (now (text .entry)) x) ≡ none) ⌝ }
 {
-    let at = i * 4;
-    if rows[at] != 11 {
-        return false;
-    }
-    rows[at - 4] == 8
+    let right = i - 1;
+    let Lookup::Row {
+        kind: _,
+        x: _,
+        y: _,
+        size: n,
+    } = rows::row_at(rows, right)
+    else {
+        return true;
+    };
+    loops(rows, text, right - rows::wide(n), right)
 }
 
-// Whether the subtree of row `root` has a loop over a Seq.
-pub fn has_loop(rows: &[u32], root: usize) -> bool
+// Whether some Seq of the subtree of row `root` does.
+pub fn any_fires(rows: &[u32], text: &[u8], root: usize) -> bool
+    requires { ⌜ Inside (now rows) (length (now text)) ⌝ }
     requires { ⌜ Stands (now rows) root ⌝ }
-    ensures { λ b. ⌜ (b ≡ false → (t : Bytes) (r : Expr Span) → At (now (rows .entry)) root r → list (resolve t r) ≡ resolve t r) ⌝ }
+    ensures { λ b. ⌜ (b ≡ false → (r : Expr Span) → At (now (rows .entry)) root r → list (resolve (now (text .entry)) r) ≡ resolve (now (text .entry)) r) ⌝ }
 {
     let Lookup::Row {
         kind: _,
@@ -131,11 +140,12 @@ pub fn has_loop(rows: &[u32], root: usize) -> bool
     else {
         return true;
     };
-    // a subtree's first row has none before it
-    let mut i = root + 2 - rows::wide(size);
+    let mut i = root + 1 - rows::wide(size);
     while i <= root {
-        if loop_row(rows, i) {
-            return true;
+        if rows[i * 4] == 8 {
+            if fires(rows, text, i) {
+                return true;
+            }
         }
         i += 1;
     }
@@ -193,7 +203,7 @@ pub fn walk(
     }
 }
 
-// Writes the listed subtree of row `root` at p, its literals packed: most have no loop to list, and a copy takes a fifth of a walk's time.
+// Writes the listed subtree of row `root` at p, its literals packed: most have no loop to list, and a copy is cheaper than a walk.
 pub fn list(
     rows: &[u32],
     text: &[u8],
@@ -207,7 +217,7 @@ pub fn list(
     requires { ⌜ Areas (now out) (now lits) ⌝ }
     ensures { λ a. ⌜ ((r : Expr Span) → At (now (rows .entry)) root r → KeptAnswer a p (list (resolve (now (text .entry)) r)) (now (out .entry)) (now (out .exit)) (now (lits .entry)) (now (lits .exit))) ⌝ }
 {
-    if !has_loop(rows, root) {
+    if !any_fires(rows, text, root) {
         return writing::keep(rows, text, root, out, lits, p);
     }
     walk(rows, text, root, out, lits, p)

@@ -357,7 +357,7 @@ fn walk(rows: &[u32], text: &[u8], root: usize, out: &mut [u32], lits: &mut [u8]
     }
 }
 
-// Writes the subtree of row `root`, unrolled, at p: most have nothing to unroll, and a copy takes a fifth of a walk's time.
+// Writes the subtree of row `root`, unrolled, at p: most have nothing to unroll, and a copy is cheaper than a walk.
 pub fn unroll(
     rows: &[u32],
     text: &[u8],

@@ -9,8 +9,9 @@ use borrow.Author.Needs.{needs}
 use Rattle.rows.specs.Rows.{kindAt, Stands}
 use Rattle.rows.proofs.Laws.{Found, row-found, root, root-there, found-size}
 use Rattle.rows.proofs.Cells.{tells-no}
+use Rattle.scans.proofs.Laws.{rows-stand}
 use Rattle.factorizer.specs.Factors.{factored}
-use Rattle.factorizer.proofs.Quiets.{Idle, rows-stand, other-idle, factor-quiet}
+use Rattle.factorizer.proofs.Quiets.{Idle, other-idle, factor-quiet}
 use Rattle.factorizer.proofs.any_fires.Statement.{statement}
 use Rattle.factorizer.proofs.any_fires.Tie as tie
 

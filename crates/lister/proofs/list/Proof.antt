@@ -4,8 +4,8 @@ use Rattle.lister.proofs.Quiets.{answer-quiet}
 use Rattle.lister.proofs.list.Statement.{statement}
 use Rattle.lister.proofs.list.Tie as tie
 
-has-loop-requires : tie.Need-has-loop-requires
-has-loop-requires c κs = search needs
+any-fires-requires : tie.Need-any-fires-requires
+any-fires-requires c κs = search needs
 
 keep-requires : tie.Need-keep-requires
 keep-requires c κs = search needs
@@ -17,7 +17,7 @@ same-length-2 : tie.Need-same-length-2
 same-length-2 c = search needs
 
 returns : tie.Need-returns
-returns c = λ r a. answer-quiet (c .before .before .before .before .keep .result) _ _ _ _ _ (c .before .before .before .before .before .before .before .before .has-loop .ensures (not-true _ (c .before .before .before .before .before .before .before .if1 .taken)) _ r a) (c .before .before .before .before .keep .ensures r a)
+returns c = λ r a. answer-quiet (c .before .before .before .before .keep .result) _ _ _ _ _ (c .before .before .before .before .before .before .before .before .any-fires .ensures (not-true _ (c .before .before .before .before .before .before .before .if1 .taken)) r a) (c .before .before .before .before .keep .ensures r a)
 
 walk-requires : tie.Need-walk-requires
 walk-requires c κs = search needs
@@ -35,7 +35,7 @@ pub list-spec : {M : Type 1} → statement M
 list-spec =
     tie.close
     (tie.spec
-    has-loop-requires
+    any-fires-requires
     keep-requires
     same-length
     same-length-2

@@ -1,0 +1,2 @@
+-- What scans of a tree's rows use.
+pub mod Laws
