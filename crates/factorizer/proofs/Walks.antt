@@ -1,7 +1,8 @@
 -- A subtree that was read is factored by what the calls for its parts answer. Assumes nothing.
 use mathlib.Core.Path.{_≡_, refl, sym, ap, subst, _∙_}
-use mathlib.Core.Bool.{Bool}
+use mathlib.Core.Bool.{Bool, true, false}
 use mathlib.Core.List.{List}
+use mathlib.Core.Option.{none}
 use Prim.Native.Nat.{ℕ, _+_, _-_, _/_, _≤_, _<_}
 use native.Mathlib.Omega.{arith}
 use lib.ListN.{length, length-append}
@@ -9,11 +10,10 @@ use Rattle.grammar.specs.Basic.{Bytes}
 use Rattle.grammar.specs.Tree.{E, Expr, Head, Un, Bin, Opt, Seq, Choice, lit, fixed, skip, un, bin, unHead, binKind, size}
 use Rattle.grammar.specs.Rows.{Span}
 use Rattle.grammar.specs.Text.{resolve, textOf}
-use Rattle.rows.specs.declared.Shape.{Shape}
-use Rattle.rows.specs.declared.Shape.the-variants.{Lit, Num, One, Two, Skips}
-use Rattle.rows.specs.Rows.{At, shapeOf}
-use Rattle.rows.proofs.Laws.{Found, size-pos}
-use Rattle.rows.proofs.Views.{OneView, TwoView, as-two, two-is, two-none, shapeIn, found-shape, at-unique}
+use Rattle.grammar.specs.Steps.{factor?}
+use Rattle.rows.specs.Rows.{kindAt, At, shapeOf}
+use Rattle.rows.proofs.Laws.{Found, root, root-found, size-pos}
+use Rattle.rows.proofs.Views.{TwoView, as-two, two-is, two-none, shapeIn, at-unique}
 use Rattle.rows.proofs.Cells.{bin-shape}
 use Rattle.writing.specs.declared.Place.{Place}
 use Rattle.writing.specs.declared.Wrote.{Wrote}
@@ -21,11 +21,12 @@ use Rattle.writing.specs.declared.Wrote.the-variants.{Done, Full}
 use Rattle.writing.specs.Writes.{Fits, RowAnswer}
 use Rattle.writing.specs.Keeps.{Kept, KeptAnswer}
 use Rattle.writing.proofs.Keeps.{kept-un, kept-bin}
+use Rattle.chains.proofs.Walks.{Leaf}
 use Rattle.factorizer.specs.declared.Case.{Case}
 use Rattle.factorizer.specs.declared.Case.the-variants.{Heads, Tail, First, Plain}
 use Rattle.factorizer.specs.Cases.{HeadsTold, TailTold, FirstTold, CaseTold}
-use Rattle.factorizer.specs.Factors.{factored, beneath, ReadyBoth}
-use Rattle.factorizer.proofs.Factors.{factored-un, factored-other, factored-size, factored-text}
+use Rattle.factorizer.specs.Factors.{factored, beneath, ReadyBoth, FiresTold}
+use Rattle.factorizer.proofs.Factors.{factored-un, factored-other, factored-plain, no-choice, factored-size, factored-text}
 
 -- ---- a node's own row ends it
 
@@ -41,29 +42,34 @@ bin-answer (Done a) o₃ b w v {k = h} k r g = kept-bin w v b (h, 0, 0) _ (rw k)
 
 -- ---- leaves are as they were
 
-abbrev pub Leaf : Shape → Type 0
-Leaf Lit = Unit {0}
-Leaf Num = Unit {0}
-Leaf Skips = Unit {0}
-Leaf One = ⊥
-Leaf Two = ⊥
+pub factored-leaf : (tight : Bool) (t : Bytes) (r : Expr Span) → Leaf (shapeIn r) → factored tight (resolve t r) ≡ resolve t r
+factored-leaf tight t (lit k s) h = factored-other tight _ refl
+factored-leaf tight t (fixed f) h = factored-other tight _ refl
+factored-leaf tight t (skip ss) h = factored-other tight _ refl
+factored-leaf tight t (un u e) h = absurd h
+factored-leaf tight t (bin b l r) h = absurd h
 
-beneath-leaf : (tight : Bool) (t : Bytes) (r : Expr Span) → Leaf (shapeIn r) → beneath tight (resolve t r) ≡ resolve t r
-beneath-leaf tight t (lit k s) h = refl
-beneath-leaf tight t (fixed f) h = refl
-beneath-leaf tight t (skip ss) h = refl
-beneath-leaf tight t (un u e) h = absurd h
-beneath-leaf tight t (bin b l r) h = absurd h
+-- what is told of a node
+pub none-fires : (tight : Bool) (t : Bytes) {w : List ℕ} {i k : ℕ} {r : Expr Span} → At w i r → kindAt w i ≡ k → (k ≡ 9 → ⊥) → factor? tight (resolve t r) ≡ none
+none-fires tight t {r} a e h = no-choice tight (resolve t r) (two-none t 9 (root-found a) a (λ q. h (sym e ∙ root a .kind ∙ q)))
+
+pub fires-told : (b : Bool) (k : ℕ) (tight : Bool) (e : E) → k ≡ 9 → (b ≡ false → factor? tight e ≡ none) → FiresTold b k tight e
+fires-told true k tight e h f = h
+fires-told false k tight e h f = f refl
+
+pub fires-yes : {b : Bool} (k : ℕ) (tight : Bool) (e : E) → b ≡ true → FiresTold b k tight e → k ≡ 9
+fires-yes k tight e h f = subst (λ (c : Bool). FiresTold c k tight e) h f
+
+pub fires-no : {b : Bool} (k : ℕ) (tight : Bool) (e : E) → b ≡ false → FiresTold b k tight e → factor? tight e ≡ none
+fires-no k tight e h f = subst (λ (c : Bool). FiresTold c k tight e) h f
 
 module _ (tight : Bool) (t : Bytes) {w : List ℕ} {i k x y n : ℕ} {r : Expr Span} where
-  pub leaf-is : {s : Shape} → Found w i k x y n → At w i r → shapeOf k ≡ s → Leaf s → beneath tight (resolve t r) ≡ resolve t r
-  leaf-is f a h l = beneath-leaf tight t r (subst Leaf (sym (found-shape f a h)) l)
-
-  pub one-is : (v : OneView w i k x y n r) → beneath tight (resolve t r) ≡ un (v .op) (factored tight (resolve t (v .child)))
-  one-is v = rw (v .is)
-
   pub two-are : (v : TwoView w i k x y n r) → beneath tight (resolve t r) ≡ bin (v .op) (factored tight (resolve t (v .left))) (factored tight (resolve t (v .right)))
   two-are v = rw (v .is)
+
+  -- a node that factor leaves as it is
+  pub two-plain : (v : TwoView w i k x y n r) → factor? tight (resolve t r) ≡ none → factored tight (resolve t r) ≡ bin (v .op) (factored tight (resolve t (v .left))) (factored tight (resolve t (v .right)))
+  two-plain v h = factored-plain tight (resolve t r) h ∙ two-are v
 
   -- a root that is no Choice is not tried
   pub other-is : Found w i k x y n → At w i r → (k ≡ 9 → ⊥) → factored tight (resolve t r) ≡ beneath tight (resolve t r)

@@ -1,6 +1,8 @@
 -- Factor where it is known whether the rule is tight, that is Atomic or CompoundAtomic. Assumes nothing.
-use mathlib.Core.Bool.{Bool}
+use mathlib.Core.Path.{_≡_}
+use mathlib.Core.Bool.{Bool, true, false}
 use mathlib.Core.List.{List}
+use mathlib.Core.Option.{none}
 use Prim.Native.Nat.{ℕ}
 use Rattle.grammar.specs.Basic.{Bytes}
 use Rattle.grammar.specs.Tree.{Expr, E, Choice, bin}
@@ -19,6 +21,11 @@ factored tight e = topDown (orSame (factor? tight)) e
 -- the node as it is, with factored children: its own root is not tried
 abbrev pub beneath : Bool → E → E
 beneath tight e = children (factored tight) e
+
+-- whether a node e of kind k is a Choice that factor rewrites
+abbrev pub FiresTold : Bool → ℕ → Bool → E → Type 0
+FiresTold true k tight e = k ≡ 9
+FiresTold false k tight e = factor? tight e ≡ none
 
 -- trees stand at rows i and j of the words w with the text s, and a node over both fits at p of the areas o and t
 pub record ReadyBoth (w : List ℕ) (s : Bytes) (i j : ℕ) (p : Place) (o t : List ℕ) : Type 0 where

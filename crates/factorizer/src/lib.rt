@@ -12,7 +12,7 @@ ghost use Rattle.grammar.specs.Steps.{isTight, factor?, factor};
 ghost use Rattle.rows.specs.Rows.{kindAt, Inside, At, Stands};
 ghost use Rattle.writing.specs.Writes.{Areas, RowAnswer};
 ghost use Rattle.writing.specs.Keeps.{KeptAnswer, Ready};
-ghost use Rattle.factorizer.specs.Factors.{factored, beneath, ReadyBoth};
+ghost use Rattle.factorizer.specs.Factors.{factored, beneath, ReadyBoth, FiresTold};
 ghost use Rattle.factorizer.specs.Cases.{SidesTold, CaseTold};
 use rows::Lookup;
 use rows::Shape;
@@ -143,7 +143,20 @@ pub fn fires(rows: &[u32], text: &[u8], i: usize, tight: bool) -> bool
     }
 }
 
-// Whether some Choice of the subtree of row `root` is.
+// Whether the node of row i, of that kind, is such a Choice.
+pub fn fires_at(rows: &[u32], text: &[u8], i: usize, kind: u32, tight: bool) -> bool
+    requires { ⌜ Inside (now rows) (length (now text)) ⌝ }
+    requires { ⌜ Stands (now rows) i ⌝ }
+    requires { ⌜ kindAt (now rows) i ≡ kind ⌝ }
+    ensures { λ b. ⌜ ((x : Expr Span) → At (now (rows .entry)) i x → FiresTold b kind tight (resolve (now (text .entry)) x)) ⌝ }
+{
+    if kind != 9 {
+        return false;
+    }
+    fires(rows, text, i, tight)
+}
+
+// Whether some Choice of the subtree of row `root` is one of the three cases.
 pub fn any_fires(rows: &[u32], text: &[u8], root: usize, tight: bool) -> bool
     requires { ⌜ Inside (now rows) (length (now text)) ⌝ }
     requires { ⌜ Stands (now rows) root ⌝ }
@@ -264,39 +277,30 @@ pub fn children(
     ensures { λ a. ⌜ ((r : Expr Span) → At (now (rows .entry)) root r → KeptAnswer a p (beneath tight (resolve (now (text .entry)) r)) (now (out .entry)) (now (out .exit)) (now (lits .entry)) (now (lits .exit))) ⌝ }
 {
     let Lookup::Row {
-        kind,
-        x,
-        y,
+        kind: k,
+        x: _,
+        y: _,
         size: _,
     } = rows::row_at(rows, root)
     else {
         return Wrote::Full;
     };
-    match rows::shape_of(kind) {
-        Shape::Lit => writing::keep(rows, text, root, out, lits, p),
-        Shape::Num => writing::keep(rows, text, root, out, lits, p),
-        Shape::Skips => writing::keep(rows, text, root, out, lits, p),
-        Shape::One => {
-            let Wrote::Done(q) = at(rows, text, root - 1, tight, out, lits, p) else {
-                return Wrote::Full;
-            };
-            end(out, p, q, kind, x, y)
-        }
-        Shape::Two => {
-            let right = root - 1;
-            let Lookup::Row {
-                kind: _,
-                x: _,
-                y: _,
-                size: n,
-            } = rows::row_at(rows, right)
-            else {
-                return Wrote::Full;
-            };
-            let left = right - rows::wide(n);
-            both(rows, text, left, right, tight, kind, out, lits, p)
-        }
+    // only a Choice is tried
+    if k != 9 {
+        return at(rows, text, root, tight, out, lits, p);
     }
+    let right = root - 1;
+    let Lookup::Row {
+        kind: _,
+        x: _,
+        y: _,
+        size: n,
+    } = rows::row_at(rows, right)
+    else {
+        return Wrote::Full;
+    };
+    let left = right - rows::wide(n);
+    both(rows, text, left, right, tight, 9, out, lits, p)
 }
 
 // Writes the factored subtree of row `root`.
@@ -314,30 +318,48 @@ pub fn at(
     requires { ⌜ Areas (now out) (now lits) ⌝ }
     ensures { λ a. ⌜ ((r : Expr Span) → At (now (rows .entry)) root r → KeptAnswer a p (factored tight (resolve (now (text .entry)) r)) (now (out .entry)) (now (out .exit)) (now (lits .entry)) (now (lits .exit))) ⌝ }
 {
+    let base = chains::below(rows, root);
     let Lookup::Row {
-        kind: k,
+        kind,
         x: _,
         y: _,
         size: _,
-    } = rows::row_at(rows, root)
+    } = rows::row_at(rows, base)
     else {
         return Wrote::Full;
     };
-    if k != 9 {
-        return children(rows, text, root, tight, out, lits, p);
+    if let Shape::Two = rows::shape_of(kind) {
+        let right = base - 1;
+        let Lookup::Row {
+            kind: _,
+            x: _,
+            y: _,
+            size: n,
+        } = rows::row_at(rows, right)
+        else {
+            return Wrote::Full;
+        };
+        let left = right - rows::wide(n);
+        if fires_at(rows, text, base, kind, tight) {
+            let Wrote::Done(e) = choice(rows, text, left, right, tight, out, lits, p) else {
+                return Wrote::Full;
+            };
+            return chains::raise(rows, base, root, out, p, e);
+        }
+        // as `both` does, in one call less for each row of a deep tree
+        let Wrote::Done(q) = at(rows, text, left, tight, out, lits, p) else {
+            return Wrote::Full;
+        };
+        let Wrote::Done(s) = at(rows, text, right, tight, out, lits, q) else {
+            return Wrote::Full;
+        };
+        let Wrote::Done(e) = end(out, p, s, kind, 0, 0) else {
+            return Wrote::Full;
+        };
+        chains::raise(rows, base, root, out, p, e)
+    } else {
+        writing::keep(rows, text, root, out, lits, p)
     }
-    let right = root - 1;
-    let Lookup::Row {
-        kind: _,
-        x: _,
-        y: _,
-        size: n,
-    } = rows::row_at(rows, right)
-    else {
-        return Wrote::Full;
-    };
-    let left = right - rows::wide(n);
-    choice(rows, text, left, right, tight, out, lits, p)
 }
 
 // Writes the factored subtree of row `root` of a rule of that type at p, its literals packed: in most no case fits, and a copy is cheaper than a walk.

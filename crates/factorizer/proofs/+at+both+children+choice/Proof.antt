@@ -1,3 +1,4 @@
+-- `at`, `both`, `children` and `choice` meet their contracts; the measures are twice the size words, and one more where a call is on the same tree. Assumes nothing.
 use mathlib.Core.Path.{_≡_, refl, sym, ap, _∙_}
 use native.Mathlib.Omega.{arith}
 use Prim.Native.Nat.{_+_, _-_, _*_, _/_, ℕ, _<_}
@@ -5,19 +6,21 @@ use lib.ListN.{length}
 use Rattle.grammar.specs.Tree.{Expr, Opt, Seq, Choice, un, bin, size}
 use Rattle.grammar.specs.Rows.{Span}
 use Rattle.grammar.specs.Text.{resolve}
-use Rattle.rows.specs.declared.Shape.the-variants.{One, Two}
-use Rattle.rows.specs.Rows.{At, sizeAt, shapeOf}
+use Rattle.rows.specs.Rows.{At, sizeAt}
 use Rattle.rows.proofs.Laws.{Found, row-found, root, root-there, found-size}
-use Rattle.rows.proofs.Views.{OneView, TwoView, as-one, as-two, left-at}
+use Rattle.rows.proofs.Views.{TwoView, as-two, found-shape, left-at}
 use Rattle.writing.specs.Writes.{Fits}
-use Rattle.writing.specs.Keeps.{Kept}
+use Rattle.writing.specs.Keeps.{Kept, KeptAnswer}
 use Rattle.writing.proofs.Puts.{row-full}
 use Rattle.writing.proofs.Trees.{fits-un, fits-left}
-use Rattle.writing.proofs.Keeps.{kept-done, kept-full, ready-fits}
+use Rattle.writing.proofs.Keeps.{kept-done, kept-full, ready-fits, ready-left}
+use Rattle.chains.specs.Runs.{low}
+use Rattle.chains.proofs.Runs.{else-two, low-at, low-most, low-fits}
+use Rattle.chains.proofs.Walks.{right-falls, left-falls, leaf-run, run-raisable, run-kept}
 use Rattle.factorizer.specs.Cases.{HeadsTold, TailTold}
 use Rattle.factorizer.specs.Factors.{factored}
-use Rattle.factorizer.proofs.Factors.{choice-heads, choice-tail, choice-first, choice-plain}
-use Rattle.factorizer.proofs.Walks.{un-answer, bin-answer, leaf-is, one-is, two-are, other-is, choice-is, choice-view, told-heads, told-tail, told-first, told-plain, fits-choice, kept-order, un-room, right-fits, both-order, both-room, opt-factored, ready-both, fits-opt, fits-heads}
+use Rattle.factorizer.proofs.Factors.{factored-un, factored-size, choice-heads, choice-tail, choice-first, choice-plain}
+use Rattle.factorizer.proofs.Walks.{un-answer, bin-answer, factored-leaf, two-are, two-plain, other-is, fires-yes, fires-no, choice-is, choice-view, told-heads, told-tail, told-first, told-plain, fits-choice, kept-order, un-room, right-fits, both-order, both-room, opt-factored, ready-both, fits-opt, fits-heads}
 use borrow.Author.Needs.{needs}
 use borrow.Fn.Kinds.{In}
 use borrow.Fn.PlainCycle.{Measures, is, falls, and}
@@ -33,8 +36,11 @@ use Rattle.factorizer.proofs.+at+both+children+choice.Lts-children as c
 use Rattle.factorizer.proofs.choice.Reads as choice
 use Rattle.factorizer.proofs.choice.Kinds as choice-kinds
 use Rattle.factorizer.proofs.+at+both+children+choice.Lts-choice as choice-lts
+use Rattle.chains.proofs.below.Reads as below-reads
+use Rattle.chains.proofs.raise.Reads as raise-reads
 use Rattle.factorizer.proofs.case_of.Reads as case-of-reads
 use Rattle.factorizer.proofs.end.Reads as end-reads
+use Rattle.factorizer.proofs.fires_at.Reads as fires-at-reads
 use Rattle.rows.proofs.row_at.Reads as row-at-reads
 use Rattle.rows.proofs.shape_of.Reads as shape-of-reads
 use Rattle.rows.proofs.wide.Reads as wide-reads
@@ -43,13 +49,13 @@ use Rattle.factorizer.proofs.+at+both+children+choice.{statement}
 use Rattle.factorizer.proofs.+at+both+children+choice.Tie.{close}
 
 abbrev μ-at : Measures 4 at-kinds.ps ℕ
-μ-at κs a = 2 * sizeAt (a .0 .now) (a .1 .1 .0) + 1
+μ-at κs a = 2 * sizeAt (a .0 .now) (a .1 .1 .0)
 
 abbrev μ-both : Measures 4 both-kinds.ps ℕ
 μ-both κs a = 2 * (sizeAt (a .0 .now) (a .1 .1 .0) + sizeAt (a .0 .now) (a .1 .1 .1 .0))
 
 abbrev μ-children : Measures 4 children-kinds.ps ℕ
-μ-children κs a = 2 * sizeAt (a .0 .now) (a .1 .1 .0)
+μ-children κs a = 2 * sizeAt (a .0 .now) (a .1 .1 .0) + 1
 
 abbrev μ-choice : Measures 4 choice-kinds.ps ℕ
 μ-choice κs a = 2 * (sizeAt (a .0 .now) (a .1 .1 .0) + sizeAt (a .0 .now) (a .1 .1 .1 .0)) + 1
@@ -80,27 +86,68 @@ abbrev choice-below : ℕ → In 4 choice-kinds.ps
 choice-below t = and 4 choice-kinds.ps (falls 4 choice-kinds.ps _<_ μ-choice t) choice.Pre
 
 abbrev calls-at : ℕ → at-lts.Claims
-calls-at t = (row-at-reads.Asked, row-at-reads.Learnt, children-below t, children.Post, wide-reads.Asked, wide-reads.Learnt, choice-below t, choice.Post)
+calls-at t = (below-reads.Asked, below-reads.Learnt, row-at-reads.Asked, row-at-reads.Learnt, shape-of-reads.Asked, shape-of-reads.Learnt, wide-reads.Asked, wide-reads.Learnt, fires-at-reads.Asked, fires-at-reads.Learnt, choice-below t, choice.Post, raise-reads.Asked, raise-reads.Learnt, at-below t, at.Post, end-reads.Asked, end-reads.Learnt, keep-reads.Asked, keep-reads.Learnt)
 
 abbrev calls-both : ℕ → both-lts.Claims
 calls-both t = (at-below t, at.Post, end-reads.Asked, end-reads.Learnt)
 
 abbrev calls-children : ℕ → children-lts.Claims
-calls-children t = (row-at-reads.Asked, row-at-reads.Learnt, shape-of-reads.Asked, shape-of-reads.Learnt, keep-reads.Asked, keep-reads.Learnt, at-below t, at.Post, end-reads.Asked, end-reads.Learnt, wide-reads.Asked, wide-reads.Learnt, both-below t, both.Post)
+calls-children t = (row-at-reads.Asked, row-at-reads.Learnt, at-below t, at.Post, wide-reads.Asked, wide-reads.Learnt, both-below t, both.Post)
 
 abbrev calls-choice : ℕ → choice-lts.Claims
 calls-choice t = (case-of-reads.Asked, case-of-reads.Learnt, at-below t, at.Post, choice-below t, choice.Post, end-reads.Asked, end-reads.Learnt, children-below t, children.Post, both-below t, both.Post)
 
 -- ---- what is known
--- at: the row that was read, the Choice that it ends, and its right side's rows
-at-read : (t : ℕ) (m : at-lts.After-known-told (calls-at t) (at-at t) at.Post) → let k = m .before .k .given .0 in let a = m .before .before .before .before .before .before .before .before .args in Found (a .rows .now) (a .root) (k .0) (k .1 .0) (k .1 .1 .0) (k .1 .1 .1 .0)
-at-read t m = row-found (sym (m .before .before .before .row-at .ensures) ∙ m .before .k .given .1)
+-- at: the rows that were read, and what the one below the run says of the tree there
+at-read : (t : ℕ) (c : at-lts.After-known-told (calls-at t) (at-at t) at.Post) → let k = c .before .kind .given .0 in Found (c .before .before .before .before .before .before .before .before .before .args .rows .now) (c .before .before .before .before .below .result) (k .0) (k .1 .0) (k .1 .1 .0) (k .1 .1 .1 .0)
+at-read t c = row-found (sym (c .before .before .before .row-at .ensures) ∙ c .before .kind .given .1)
 
-at-view : (t : ℕ) (c : at-lts.Else1 (calls-at t) (at-at t) at.Post) → let k = c .before .before .k .given .0 in let s = c .before .before .before .before .before .before .before .before .before in TwoView (s .args .rows .now) (s .args .root) (k .0) (k .1 .0) (k .1 .1 .0) (k .1 .1 .1 .0) (s .pre .1 .1 .0 .tree)
-at-view t c = choice-view (at-read t (c .before)) (c .before .before .before .before .before .before .before .before .before .pre .1 .1 .0 .at) (c .if1 .left)
+at-low : (t : ℕ) (c : at-lts.After-below (calls-at t) (at-at t) at.Post) (r : Expr Span) → At (c .before .before .before .before .before .args .rows .now) (c .before .before .before .before .before .args .root) r → At (c .before .before .before .before .before .args .rows .now) (c .below .result) (low r)
+at-low t c r a = low-at r a _ (c .below .ensures r a)
 
-at-right : (t : ℕ) (c : at-lts.After-wide (calls-at t) (at-at t) at.Post) {r : Expr Span} → At (c .before .before .before .before .before .before .before .before .before .before .before .before .before .before .args .rows .now) (c .before .before .before .before .before .before .before .before .before .before .before .before .before .before .args .root - 1) r → c .wide .result ≡ size r
+at-view : (t : ℕ) (c : at-lts.After-enum-told2 (calls-at t) (at-at t) at.Post) (r : Expr Span) → At (c .before .before .before .before .before .before .before .before .before .before .before .before .args .rows .now) (c .before .before .before .before .before .before .before .before .before .before .before .before .args .root) r → let k = c .before .before .before .before .kind .given .0 in TwoView (c .before .before .before .before .before .before .before .before .before .before .before .before .args .rows .now) (c .before .before .before .before .before .before .before .below .result) (k .0) (k .1 .0) (k .1 .1 .0) (k .1 .1 .1 .0) (low r)
+at-view t c r a = as-two (at-read t (c .before .before .before)) (at-low t (c .before .before .before .before .before .before .before) r a) (sym (c .before .before .shape-of .ensures) ∙ c .enum-told2 .given .1)
+
+at-right : (t : ℕ) (c : at-lts.After-wide (calls-at t) (at-at t) at.Post) {r : Expr Span} → At (c .before .before .before .before .before .before .before .before .before .before .before .before .before .before .before .before .before .args .rows .now) (c .before .before .before .before .before .before .before .before .before .before .before .before .below .result - 1) r → c .wide .result ≡ size r
 at-right t c a = c .wide .ensures ∙ found-size (row-found (sym (c .before .before .before .before .row-at2 .ensures) ∙ c .before .before .n .given .1)) a
+
+at-fits : (t : ℕ) (c : at-lts.After-below (calls-at t) (at-at t) at.Post) (r : Expr Span) → At (c .before .before .before .before .before .args .rows .now) (c .before .before .before .before .before .args .root) r → let s = c .before .before .before .before .before .args in Fits (s .p) (resolve (s .text .now) (low r)) (s .out .now) (s .lits .now)
+at-fits t c r a = low-fits (c .before .before .before .before .before .args .text .now) r (ready-fits (c .before .before .before .before .before .pre .1 .1 .0) r a)
+
+-- at: what the call for a Choice that fires gave, and those for the two sides of any other node
+fired-answer : (t : ℕ) (c : at-lts.After-choice (calls-at t) (at-at t) at.Post) (r : Expr Span) (a : At (c .before .before .before .before .before .before .before .before .before .before .before .before .before .before .before .before .before .before .before .before .before .before .args .rows .now) (c .before .before .before .before .before .before .before .before .before .before .before .before .before .before .before .before .before .before .before .before .before .before .args .root) r) → let s = c .before .before .before .before .before .before .before .before .before .before .before .before .before .before .before .before .before .before .before .before .before .before .args in let k = c .choice .last .1 .1 .1 .1 .1 in
+    KeptAnswer (c .choice .result) (s .p) (factored (s .tight) (resolve (s .text .now) (low r))) (s .out .now) (k .0) (s .lits .now) (k .1 .0)
+fired-answer t c r a =
+    let s = c .before .before .before .before .before .before .before .before .before .before .before .before .before .before .before .before .before .before .before .before .before .before .args in
+    let v = at-view t (c .before .before .before .before .before .before .before .before .before .before) r a in
+    rw (choice-is (s .tight) (s .text .now) v (fires-yes _ _ _ (c .before .before .before .if1 .taken) (c .before .before .before .before .fires-at .ensures (low r) (at-low t (c .before .before .before .before .before .before .before .before .before .before .before .before .before .before .before .before .before) r a)))) (c .choice .ensures (v .left) (v .right) (left-at v _ (at-right t (c .before .before .before .before .before) (v .atRight))) (v .atRight))
+
+fired : (t : ℕ) (c : at-lts.After-known-told3 (calls-at t) (at-at t) at.Post) (r : Expr Span) (a : At (c .before .before .before .before .before .before .before .before .before .before .before .before .before .before .before .before .before .before .before .before .before .before .before .before .before .before .before .before .before .args .rows .now) (c .before .before .before .before .before .before .before .before .before .before .before .before .before .before .before .before .before .before .before .before .before .before .before .before .before .before .before .before .before .args .root) r) → let s = c .before .before .before .before .before .before .before .before .before .before .before .before .before .before .before .before .before .before .before .before .before .before .before .before .before .before .before .before .before .args in let k = c .before .before .before .before .before .before .before .choice .last .1 .1 .1 .1 .1 in
+    Kept (c .before .e .given .0 .0) (s .p) (factored (s .tight) (resolve (s .text .now) (low r))) (s .out .now) (k .0) (s .lits .now) (k .1 .0)
+fired t c r a = kept-done _ _ _ _ _ _ (c .before .e .given .1) (fired-answer t (c .before .before .before .before .before .before .before) r a)
+
+side-kept : (t : ℕ) (c : at-lts.After-known-told4 (calls-at t) (at-at t) at.Post) (r : Expr Span) (a : At (c .before .before .before .before .before .before .before .before .before .before .before .before .before .before .before .before .before .before .before .before .before .before .before .before .before .before .before .before .before .args .rows .now) (c .before .before .before .before .before .before .before .before .before .before .before .before .before .before .before .before .before .before .before .before .before .before .before .before .before .before .before .before .before .args .root) r) → let s = c .before .before .before .before .before .before .before .before .before .before .before .before .before .before .before .before .before .before .before .before .before .before .before .before .before .before .before .before .before .args in let k = c .before .before .before .before .before .before .before .at .last .1 .1 .1 .1 in
+    Kept (c .before .q .given .0 .0) (s .p) (factored (s .tight) (resolve (s .text .now) (at-view t (c .before .before .before .before .before .before .before .before .before .before .before .before .before .before .before .before .before) r a .left))) (s .out .now) (k .0) (s .lits .now) (k .1 .0)
+side-kept t c r a = let v = at-view t (c .before .before .before .before .before .before .before .before .before .before .before .before .before .before .before .before .before) r a in kept-done _ _ _ _ _ _ (c .before .q .given .1) (c .before .before .before .before .before .before .before .at .ensures (v .left) (left-at v _ (at-right t (c .before .before .before .before .before .before .before .before .before .before .before .before) (v .atRight))))
+
+side-kept-2 : (t : ℕ) (c : at-lts.After-known-told5 (calls-at t) (at-at t) at.Post) (r : Expr Span) (a : At (c .before .before .before .before .before .before .before .before .before .before .before .before .before .before .before .before .before .before .before .before .before .before .before .before .before .before .before .before .before .before .before .before .before .before .before .before .before .before .before .args .rows .now) (c .before .before .before .before .before .before .before .before .before .before .before .before .before .before .before .before .before .before .before .before .before .before .before .before .before .before .before .before .before .before .before .before .before .before .before .before .before .before .before .args .root) r) → let s = c .before .before .before .before .before .before .before .before .before .before .before .before .before .before .before .before .before .before .before .before .before .before .before .before .before .before .before .before .before .before .before .before .before .before .before .before .before .before .before .args in let k = c .before .before .before .before .before .before .before .before .before .before .before .before .before .before .before .before .before .at .last .1 .1 .1 .1 in let m = c .before .before .before .before .before .before .before .at2 .last .1 .1 .1 .1 in
+    Kept (c .before .s .given .0 .0) (c .before .before .before .before .before .before .before .before .before .before .before .q .given .0 .0) (factored (s .tight) (resolve (s .text .now) (at-view t (c .before .before .before .before .before .before .before .before .before .before .before .before .before .before .before .before .before .before .before .before .before .before .before .before .before .before .before) r a .right))) (k .0) (m .0) (k .1 .0) (m .1 .0)
+side-kept-2 t c r a = let v = at-view t (c .before .before .before .before .before .before .before .before .before .before .before .before .before .before .before .before .before .before .before .before .before .before .before .before .before .before .before) r a in kept-done _ _ _ _ _ _ (c .before .s .given .1) (c .before .before .before .before .before .before .before .at2 .ensures (v .right) (v .atRight))
+
+sides-room : (t : ℕ) (c : at-lts.After-known-told5 (calls-at t) (at-at t) at.Post) (r : Expr Span) (a : At (c .before .before .before .before .before .before .before .before .before .before .before .before .before .before .before .before .before .before .before .before .before .before .before .before .before .before .before .before .before .before .before .before .before .before .before .before .before .before .before .args .rows .now) (c .before .before .before .before .before .before .before .before .before .before .before .before .before .before .before .before .before .before .before .before .before .before .before .before .before .before .before .before .before .before .before .before .before .before .before .before .before .before .before .args .root) r) → c .before .s .given .0 .0 .rows < length (c .before .before .before .before .before .before .before .at2 .last .1 .1 .1 .1 .0) / 4
+sides-room t c r a = let v = at-view t (c .before .before .before .before .before .before .before .before .before .before .before .before .before .before .before .before .before .before .before .before .before .before .before .before .before .before .before) r a in both-room (c .before .before .before .before .before .before .before .before .before .before .before .before .before .before .before .before .before .before .before .before .before .before .before .before .before .before .before .before .before .before .before .before .before .before .before .before .before .before .before .args .tight) _ (side-kept t (c .before .before .before .before .before .before .before .before .before .before) r a) (c .before .before .before .before .before .before .before .before .before .before .before .before .before .before .before .before .before .at .kept .1 .1 .1 .1 .0) _ (side-kept-2 t (c) r a) (c .before .before .before .before .before .before .before .at2 .kept .1 .1 .1 .1 .0) (rw (v .is) at (at-fits t (c .before .before .before .before .before .before .before .before .before .before .before .before .before .before .before .before .before .before .before .before .before .before .before .before .before .before .before .before .before .before .before .before .before .before) r a))
+
+plain-answer : (t : ℕ) (c : at-lts.After-end (calls-at t) (at-at t) at.Post) (r : Expr Span) (a : At (c .before .before .before .before .before .before .before .before .before .before .before .before .before .before .before .before .before .before .before .before .before .before .before .before .before .before .before .before .before .before .before .before .before .before .before .before .before .before .before .before .before .args .rows .now) (c .before .before .before .before .before .before .before .before .before .before .before .before .before .before .before .before .before .before .before .before .before .before .before .before .before .before .before .before .before .before .before .before .before .before .before .before .before .before .before .before .before .args .root) r) → let s = c .before .before .before .before .before .before .before .before .before .before .before .before .before .before .before .before .before .before .before .before .before .before .before .before .before .before .before .before .before .before .before .before .before .before .before .before .before .before .before .before .before .args in let m = c .before .before .before .before .before .before .before .before .before .at2 .last .1 .1 .1 .1 in
+    KeptAnswer (c .end .result) (s .p) (factored (s .tight) (resolve (s .text .now) (low r))) (s .out .now) (c .end .last .0) (s .lits .now) (m .1 .0)
+plain-answer t c r a =
+    let s = c .before .before .before .before .before .before .before .before .before .before .before .before .before .before .before .before .before .before .before .before .before .before .before .before .before .before .before .before .before .before .before .before .before .before .before .before .before .before .before .before .before .args in
+    let v = at-view t (c .before .before .before .before .before .before .before .before .before .before .before .before .before .before .before .before .before .before .before .before .before .before .before .before .before .before .before .before .before) r a in
+    rw (two-plain (s .tight) (s .text .now) v (fires-no _ _ _ (c .before .before .before .before .before .before .before .before .before .before .before .before .before .before .before .before .before .before .before .before .before .before .if1 .left) (c .before .before .before .before .before .before .before .before .before .before .before .before .before .before .before .before .before .before .before .before .before .before .before .fires-at .ensures (low r) (at-low t (c .before .before .before .before .before .before .before .before .before .before .before .before .before .before .before .before .before .before .before .before .before .before .before .before .before .before .before .before .before .before .before .before .before .before .before .before) r a))))
+    (bin-answer (c .end .result) (c .end .last .0) (v .op) (side-kept t (c .before .before .before .before .before .before .before .before .before .before .before .before) r a) (side-kept-2 t (c .before .before) r a) (v .kind) (sides-room t (c .before .before) r a) (c .end .ensures))
+
+plain : (t : ℕ) (c : at-lts.After-known-told6 (calls-at t) (at-at t) at.Post) (r : Expr Span) (a : At (c .before .before .before .before .before .before .before .before .before .before .before .before .before .before .before .before .before .before .before .before .before .before .before .before .before .before .before .before .before .before .before .before .before .before .before .before .before .before .before .before .before .before .before .before .before .before .args .rows .now) (c .before .before .before .before .before .before .before .before .before .before .before .before .before .before .before .before .before .before .before .before .before .before .before .before .before .before .before .before .before .before .before .before .before .before .before .before .before .before .before .before .before .before .before .before .before .before .args .root) r) → let s = c .before .before .before .before .before .before .before .before .before .before .before .before .before .before .before .before .before .before .before .before .before .before .before .before .before .before .before .before .before .before .before .before .before .before .before .before .before .before .before .before .before .before .before .before .before .before .args in let m = c .before .before .before .before .before .before .before .before .before .before .before .before .before .before .at2 .last .1 .1 .1 .1 in
+    Kept (c .before .e2 .given .0 .0) (s .p) (factored (s .tight) (resolve (s .text .now) (low r))) (s .out .now) (c .before .before .before .before .before .end .last .0) (s .lits .now) (m .1 .0)
+plain t c r a = kept-done _ _ _ _ _ _ (c .before .e2 .given .1) (plain-answer t (c .before .before .before .before .before) r a)
 
 -- both: what the calls for the two sides gave
 left-kept : (t : ℕ) (c : both-lts.After-known-told (calls-both t) (both-at t) both.Post) → let s = c .before .before .before .before .before .before .before .before .before .before .before .before .before .before in let d = c .before .before .before .before .before .before .before .at in Kept (c .before .q .given .0 .0) (s .args .p) (factored (s .args .tight) (resolve (s .args .text .now) (s .pre .1 .1 .0 .left))) (s .args .out .now) (d .last .1 .1 .1 .1 .0) (s .args .lits .now) (d .last .1 .1 .1 .1 .1 .0)
@@ -109,27 +156,16 @@ left-kept t c = let s = c .before .before .before .before .before .before .befor
 right-kept : (t : ℕ) (c : both-lts.After-known-told2 (calls-both t) (both-at t) both.Post) → let s = c .before .before .before .before .before .before .before .before .before .before .before .before .before .before .before .before .before .before .before .before .before .before .before .before in let d = c .before .before .before .before .before .before .before .before .before .before .before .before .before .before .before .before .before .at in let e = c .before .before .before .before .before .before .before .at2 in Kept (c .before .s .given .0 .0) (c .before .before .before .before .before .before .before .before .before .before .before .q .given .0 .0) (factored (s .args .tight) (resolve (s .args .text .now) (s .pre .1 .1 .0 .right))) (d .last .1 .1 .1 .1 .0) (e .last .1 .1 .1 .1 .0) (d .last .1 .1 .1 .1 .1 .0) (e .last .1 .1 .1 .1 .1 .0)
 right-kept t c = let s = c .before .before .before .before .before .before .before .before .before .before .before .before .before .before .before .before .before .before .before .before .before .before .before .before in kept-done _ _ _ _ _ _ (c .before .s .given .1) (c .before .before .before .before .before .before .before .at2 .ensures (s .pre .1 .1 .0 .right) (s .pre .1 .1 .0 .atRight))
 
--- children: the row that was read, and what the shape of its kind says
-read : (t : ℕ) (m : children-lts.After-known-told (calls-children t) (children-at t) children.Post) → let k = m .before .kind .given .0 in let a = m .before .before .before .before .before .before .before .before .args in Found (a .rows .now) (a .root) (k .0) (k .1 .0) (k .1 .1 .0) (k .1 .1 .1 .0)
-read t m = row-found (sym (m .before .before .before .row-at .ensures) ∙ m .before .kind .given .1)
+-- ---- what is known
+-- children: the row that was read, the Choice that it ends, and its right side's rows
+children-read : (t : ℕ) (m : children-lts.After-known-told (calls-children t) (children-at t) children.Post) → let k = m .before .k .given .0 in let a = m .before .before .before .before .before .before .before .before .args in Found (a .rows .now) (a .root) (k .0) (k .1 .0) (k .1 .1 .0) (k .1 .1 .1 .0)
+children-read t m = row-found (sym (m .before .before .before .row-at .ensures) ∙ m .before .k .given .1)
 
-is-one : (t : ℕ) (c : children-lts.After-enum-told5 (calls-children t) (children-at t) children.Post) → shapeOf (c .before .before .before .before .kind .given .0 .0) ≡ One
-is-one t c = sym (c .before .before .shape-of .ensures) ∙ c .enum-told5 .given .1
+children-view : (t : ℕ) (c : children-lts.Else1 (calls-children t) (children-at t) children.Post) → let k = c .before .before .k .given .0 in let s = c .before .before .before .before .before .before .before .before .before in TwoView (s .args .rows .now) (s .args .root) (k .0) (k .1 .0) (k .1 .1 .0) (k .1 .1 .1 .0) (s .pre .1 .1 .0 .tree)
+children-view t c = choice-view (children-read t (c .before)) (c .before .before .before .before .before .before .before .before .before .pre .1 .1 .0 .at) (c .if1 .left)
 
-is-two : (t : ℕ) (c : children-lts.After-enum-told7 (calls-children t) (children-at t) children.Post) → shapeOf (c .before .before .before .before .kind .given .0 .0) ≡ Two
-is-two t c = sym (c .before .before .shape-of .ensures) ∙ c .enum-told7 .given .1
-
-one-view : (t : ℕ) (c : children-lts.After-enum-told5 (calls-children t) (children-at t) children.Post) → let k = c .before .before .before .before .kind .given .0 in let s = c .before .before .before .before .before .before .before .before .before .before .before in OneView (s .args .rows .now) (s .args .root) (k .0) (k .1 .0) (k .1 .1 .0) (k .1 .1 .1 .0) (s .pre .1 .1 .0 .tree)
-one-view t c = as-one (read t (c .before .before .before)) (c .before .before .before .before .before .before .before .before .before .before .before .pre .1 .1 .0 .at) (is-one t c)
-
-two-view : (t : ℕ) (c : children-lts.After-enum-told7 (calls-children t) (children-at t) children.Post) → let k = c .before .before .before .before .kind .given .0 in let s = c .before .before .before .before .before .before .before .before .before .before .before in TwoView (s .args .rows .now) (s .args .root) (k .0) (k .1 .0) (k .1 .1 .0) (k .1 .1 .1 .0) (s .pre .1 .1 .0 .tree)
-two-view t c = as-two (read t (c .before .before .before)) (c .before .before .before .before .before .before .before .before .before .before .before .pre .1 .1 .0 .at) (is-two t c)
-
-right-size : (t : ℕ) (c : children-lts.After-wide (calls-children t) (children-at t) children.Post) {r : Expr Span} → At (c .before .before .before .before .before .before .before .before .before .before .before .before .before .before .before .before .args .rows .now) (c .before .before .before .before .before .before .before .before .before .before .before .before .before .before .before .before .args .root - 1) r → c .wide .result ≡ size r
-right-size t c a = c .wide .ensures ∙ found-size (row-found (sym (c .before .before .before .before .row-at2 .ensures) ∙ c .before .before .n .given .1)) a
-
-child-kept : (t : ℕ) (c : children-lts.After-known-told2 (calls-children t) (children-at t) children.Post) → let s = c .before .before .before .before .before .before .before .before .before .before .before .before .before .before .before .before .before .before .before .before .before in let d = c .before .before .before .before .before .before .before .at in Kept (c .before .q .given .0 .0) (s .args .p) (factored (s .args .tight) (resolve (s .args .text .now) (one-view t (c .before .before .before .before .before .before .before .before .before .before) .child))) (s .args .out .now) (d .last .1 .1 .1 .1 .0) (s .args .lits .now) (d .last .1 .1 .1 .1 .1 .0)
-child-kept t c = let v = one-view t (c .before .before .before .before .before .before .before .before .before .before) in kept-done _ _ _ _ _ _ (c .before .q .given .1) (c .before .before .before .before .before .before .before .at .ensures (v .child) (v .at))
+children-right : (t : ℕ) (c : children-lts.After-wide (calls-children t) (children-at t) children.Post) {r : Expr Span} → At (c .before .before .before .before .before .before .before .before .before .before .before .before .before .before .args .rows .now) (c .before .before .before .before .before .before .before .before .before .before .before .before .before .before .args .root - 1) r → c .wide .result ≡ size r
+children-right t c a = c .wide .ensures ∙ found-size (row-found (sym (c .before .before .before .before .row-at2 .ensures) ∙ c .before .before .n .given .1)) a
 
 -- choice: two Seqs that begin alike, and what the calls for the head and for the Choice of the tails gave
 heads : (t : ℕ) (c : choice-lts.After-known-told (calls-choice t) (choice-at t) choice.Post) → let s = c .before .before .before .before .before .before .before .before in let g = c .before .a .given .0 in HeadsTold (s .args .rows .now) (s .args .text .now) (g .0) (g .1 .0) (g .1 .1 .0) (s .pre .1 .1 .0 .left) (s .pre .1 .1 .0 .right)
@@ -167,32 +203,29 @@ opt-kept : (t : ℕ) (c : choice-lts.After-known-told7 (calls-choice t) (choice-
 opt-kept t c = kept-done _ _ _ _ _ _ (c .before .u .given .1) (un-answer (c .before .before .before .before .before .end2 .result) (c .before .before .before .before .before .end2 .last .0) Opt (second-kept t (c .before .before .before .before .before .before .before)) refl (opt-room t (c .before .before .before .before .before .before .before)) (c .before .before .before .before .before .end2 .ensures))
 
 -- ---- needs
+at-below-requires : (t : ℕ) → at-lts.Need-below-requires (calls-at t) (at-at t) at.Post
+at-below-requires t c κs = let d = c .before .before .before .before .pre .1 .1 .0 in record { tree = d .tree; at = d .at }
+
 at-row-at-requires : (t : ℕ) → at-lts.Need-row-at-requires (calls-at t) (at-at t) at.Post
 at-row-at-requires t c κs = search needs
 
-at-enum-known-k : (t : ℕ) → at-lts.Need-enum-known-k (calls-at t) (at-at t) at.Post
-at-enum-known-k t c = search needs
+at-enum-known-kind : (t : ℕ) → at-lts.Need-enum-known-kind (calls-at t) (at-at t) at.Post
+at-enum-known-kind t c = search needs
 
 at-enum-told : (t : ℕ) → at-lts.Need-enum-told (calls-at t) (at-at t) at.Post
 at-enum-told t c = search needs
 
 at-returns : (t : ℕ) → at-lts.Need-returns (calls-at t) (at-at t) at.Post
-at-returns t c = absurd (root-there (c .before .before .before .before .before .before .before .pre .1 .1 .0 .at) (sym (c .before .before .row-at .ensures) ∙ c .enum-told .given .1))
+at-returns t c = let d = c .before .before .before .before .before .before .before .before .pre .1 .1 .0 in absurd (root-there (at-low t (c .before .before .before) (d .tree) (d .at)) (sym (c .before .before .row-at .ensures) ∙ c .enum-told .given .1))
 
-at-children-requires : (t : ℕ) → at-lts.Need-children-requires (calls-at t) (at-at t) at.Post
-at-children-requires t c κs = let s = c .before .before .before .before .before .before .before .before .before .before .before in (omega (arith, s .pre .0), s .pre .1)
+at-shape-of-requires : (t : ℕ) → at-lts.Need-shape-of-requires (calls-at t) (at-at t) at.Post
+at-shape-of-requires t c κs = search needs
 
-at-same-length : (t : ℕ) → at-lts.Need-same-length (calls-at t) (at-at t) at.Post
-at-same-length t c = search needs
-
-at-same-length-2 : (t : ℕ) → at-lts.Need-same-length-2 (calls-at t) (at-at t) at.Post
-at-same-length-2 t c = search needs
-
-at-returns-2 : (t : ℕ) → at-lts.Need-returns-2 (calls-at t) (at-at t) at.Post
-at-returns-2 t c = let s = c .before .before .before .before .before .before .before .before .before .before .before .before .before .before .before .before in λ r a. rw (other-is (s .args .tight) (s .args .text .now) (at-read t (c .before .before .before .before .before .before .before .before)) a (c .before .before .before .before .before .before .before .if1 .taken)) (c .before .before .before .before .children .ensures r a)
+at-enum-told-2 : (t : ℕ) → at-lts.Need-enum-told-2 (calls-at t) (at-at t) at.Post
+at-enum-told-2 t c = search needs
 
 at-sub-right : (t : ℕ) → at-lts.Need-sub-right (calls-at t) (at-at t) at.Post
-at-sub-right t c = let v = at-view t c in omega (arith, v .leastLeft, v .most)
+at-sub-right t c = let d = c .before .before .before .before .before .before .before .before .before .before .before .before .pre .1 .1 .0 in let v = at-view t (c) (d .tree) (d .at) in omega (arith, v .leastLeft, v .most)
 
 at-row-at-requires-2 : (t : ℕ) → at-lts.Need-row-at-requires-2 (calls-at t) (at-at t) at.Post
 at-row-at-requires-2 t c κs = search needs
@@ -200,32 +233,131 @@ at-row-at-requires-2 t c κs = search needs
 at-enum-known-n : (t : ℕ) → at-lts.Need-enum-known-n (calls-at t) (at-at t) at.Post
 at-enum-known-n t c = search needs
 
-at-enum-told-2 : (t : ℕ) → at-lts.Need-enum-told-2 (calls-at t) (at-at t) at.Post
-at-enum-told-2 t c = search needs
+at-enum-told-3 : (t : ℕ) → at-lts.Need-enum-told-3 (calls-at t) (at-at t) at.Post
+at-enum-told-3 t c = search needs
 
-at-returns-3 : (t : ℕ) → at-lts.Need-returns-3 (calls-at t) (at-at t) at.Post
-at-returns-3 t c = absurd (root-there (at-view t (c .before .before .before) .atRight) (sym (c .before .before .row-at2 .ensures) ∙ c .enum-told2 .given .1))
+at-returns-2 : (t : ℕ) → at-lts.Need-returns-2 (calls-at t) (at-at t) at.Post
+at-returns-2 t c = let d = c .before .before .before .before .before .before .before .before .before .before .before .before .before .before .before .pre .1 .1 .0 in let v = at-view t (c .before .before .before) (d .tree) (d .at) in absurd (root-there (v .atRight) (sym (c .before .before .row-at2 .ensures) ∙ c .enum-told3 .given .1))
 
 at-wide-requires : (t : ℕ) → at-lts.Need-wide-requires (calls-at t) (at-at t) at.Post
 at-wide-requires t c κs = search needs
 
 at-sub-left : (t : ℕ) → at-lts.Need-sub-left (calls-at t) (at-at t) at.Post
-at-sub-left t c = let v = at-view t (c .before .before .before .before .before) in omega (arith, at-right t c (v .atRight), v .leastLeft, v .most)
+at-sub-left t c = let d = c .before .before .before .before .before .before .before .before .before .before .before .before .before .before .before .before .before .pre .1 .1 .0 in let v = at-view t (c .before .before .before .before .before) (d .tree) (d .at) in let e = at-right t (c) (v .atRight) in omega (arith, v .most, v .leastLeft, e)
+
+at-fires-at-requires : (t : ℕ) → at-lts.Need-fires-at-requires (calls-at t) (at-at t) at.Post
+at-fires-at-requires t c κs = let d = c .before .before .before .before .before .before .before .before .before .before .before .before .before .before .before .before .before .pre .1 .1 .0 in (c .before .before .before .before .before .before .before .before .before .before .before .before .before .before .before .before .before .pre .1 .0, (record { tree = low (d .tree); at = at-low t (c .before .before .before .before .before .before .before .before .before .before .before .before) (d .tree) (d .at) }, at-read t (c .before .before .before .before .before .before .before .before) .kind))
 
 at-choice-requires : (t : ℕ) → at-lts.Need-choice-requires (calls-at t) (at-at t) at.Post
-at-choice-requires t c κs = let s = c .before .before .before .before .before .before .before .before .before .before .before .before .before .before .before .before in let v = at-view t (c .before .before .before .before .before .before .before) in let l = left-at v _ (at-right t (c .before .before) (v .atRight)) in
-    (omega (arith, s .pre .0, root l .rows, root (v .atRight) .rows, root (s .pre .1 .1 .0 .at) .rows, found-size (at-read t (c .before .before .before .before .before .before .before .before)) (s .pre .1 .1 .0 .at), v .rows), (s .pre .1 .0, (record { left = v .left; right = v .right; atLeft = l; atRight = v .atRight; fits = fits-choice (rw (v .is) at (s .pre .1 .1 .0 .fits)) }, s .pre .1 .1 .1)))
+at-choice-requires t c κs = let d = c .before .before .before .before .before .before .before .before .before .before .before .before .before .before .before .before .before .before .before .before .before .pre .1 .1 .0 in let v = at-view t (c .before .before .before .before .before .before .before .before .before) (d .tree) (d .at) in let f = at-fits t (c .before .before .before .before .before .before .before .before .before .before .before .before .before .before .before .before) (d .tree) (d .at) in let l = left-at v _ (at-right t (c .before .before .before .before) (v .atRight)) in
+    (omega (arith, c .before .before .before .before .before .before .before .before .before .before .before .before .before .before .before .before .before .before .before .before .before .pre .0, low-most (d .tree) (d .at) _ (c .before .before .before .before .before .before .before .before .before .before .before .before .before .before .before .before .below .ensures (d .tree) (d .at)), root l .rows, root (v .atRight) .rows, at-read t (c .before .before .before .before .before .before .before .before .before .before .before .before) .rows, v .rows), (c .before .before .before .before .before .before .before .before .before .before .before .before .before .before .before .before .before .before .before .before .before .pre .1 .0, (record { left = v .left; right = v .right; atLeft = l; atRight = v .atRight; fits = fits-choice (rw (v .is) at f) }, c .before .before .before .before .before .before .before .before .before .before .before .before .before .before .before .before .before .before .before .before .before .pre .1 .1 .1)))
+
+at-enum-known-e : (t : ℕ) → at-lts.Need-enum-known-e (calls-at t) (at-at t) at.Post
+at-enum-known-e t c = search needs
+
+at-enum-told-4 : (t : ℕ) → at-lts.Need-enum-told-4 (calls-at t) (at-at t) at.Post
+at-enum-told-4 t c = search needs
+
+at-same-length : (t : ℕ) → at-lts.Need-same-length (calls-at t) (at-at t) at.Post
+at-same-length t c = search needs
+
+at-same-length-2 : (t : ℕ) → at-lts.Need-same-length-2 (calls-at t) (at-at t) at.Post
+at-same-length-2 t c = search needs
+
+at-returns-3 : (t : ℕ) → at-lts.Need-returns-3 (calls-at t) (at-at t) at.Post
+at-returns-3 t c = let d = c .before .before .before .before .before .before .before .before .before .before .before .before .before .before .before .before .before .before .before .before .before .before .before .before .before .before .before .before .pre .1 .1 .0 in absurd (kept-full _ _ _ _ _ _ (c .enum-told4 .given .1) (fired-answer t (c .before .before .before .before .before .before) (d .tree) (d .at)))
+
+at-raise-requires : (t : ℕ) → at-lts.Need-raise-requires (calls-at t) (at-at t) at.Post
+at-raise-requires t c κs = let d = c .before .before .before .before .before .before .before .before .before .before .before .before .before .before .before .before .before .before .before .before .before .before .before .before .before .before .before .before .before .before .pre .1 .1 .0 in run-raisable (factored (c .before .before .before .before .before .before .before .before .before .before .before .before .before .before .before .before .before .before .before .before .before .before .before .before .before .before .before .before .before .before .args .tight)) (factored-un (c .before .before .before .before .before .before .before .before .before .before .before .before .before .before .before .before .before .before .before .before .before .before .before .before .before .before .before .before .before .before .args .tight)) (c .before .before .before .before .before .before .before .before .before .before .before .before .before .before .before .before .before .before .before .before .before .before .before .before .before .before .before .before .before .before .args .text .now) (d .tree) (fired t (c .before) (d .tree) (d .at)) (factored-size (c .before .before .before .before .before .before .before .before .before .before .before .before .before .before .before .before .before .before .before .before .before .before .before .before .before .before .before .before .before .before .args .tight) _) _ (d .at) (c .before .before .before .before .before .before .before .before .before .before .before .before .before .before .before .before .before .before .before .before .before .before .before .before .before .below .ensures (d .tree) (d .at)) (d .fits) (c .before .before .before .before .before .before .before .before .choice .kept .1 .1 .1 .1 .1 .0) (c .before .before .before .before .before .before .before .before .before .before .before .before .before .before .before .before .before .before .before .before .before .before .before .before .before .before .before .before .before .before .pre .1 .1 .1 .words)
 
 at-same-length-3 : (t : ℕ) → at-lts.Need-same-length-3 (calls-at t) (at-at t) at.Post
-at-same-length-3 t c = search needs
+at-same-length-3 t c = c .before .before .raise .kept .1 .1 .1 .0 ∙ c .before .before .before .before .before .before .before .before .before .before .before .choice .kept .1 .1 .1 .1 .1 .0
 
 at-same-length-4 : (t : ℕ) → at-lts.Need-same-length-4 (calls-at t) (at-at t) at.Post
-at-same-length-4 t c = search needs
+at-same-length-4 t c = c .before .before .before .before .before .before .before .before .before .before .before .choice .kept .1 .1 .1 .1 .1 .1 .0
 
 at-returns-4 : (t : ℕ) → at-lts.Need-returns-4 (calls-at t) (at-at t) at.Post
-at-returns-4 t c = let s = c .before .before .before .before .before .before .before .before .before .before .before .before .before .before .before .before .before .before .before .before .before in
-    λ r a. let v = choice-view (at-read t (c .before .before .before .before .before .before .before .before .before .before .before .before .before)) a (c .before .before .before .before .before .before .before .before .before .before .before .before .if1 .left) in
-    rw (choice-is (s .args .tight) (s .args .text .now) v (c .before .before .before .before .before .before .before .before .before .before .before .before .if1 .left)) (c .before .before .before .before .choice .ensures (v .left) (v .right) (left-at v _ (at-right t (c .before .before .before .before .before .before .before) (v .atRight))) (v .atRight))
+at-returns-4 t c = λ r a. run-kept (factored (c .before .before .before .before .before .before .before .before .before .before .before .before .before .before .before .before .before .before .before .before .before .before .before .before .before .before .before .before .before .before .before .before .before .args .tight)) (factored-un (c .before .before .before .before .before .before .before .before .before .before .before .before .before .before .before .before .before .before .before .before .before .before .before .before .before .before .before .before .before .before .before .before .before .args .tight)) (c .before .before .before .before .before .before .before .before .before .before .before .before .before .before .before .before .before .before .before .before .before .before .before .before .before .before .before .before .before .before .before .before .before .args .text .now) r (fired t (c .before .before .before .before) r a) (c .before .before .raise .result) (c .before .before .raise .last .1 .1 .1 .0) (c .before .before .raise .ensures r a)
+
+at-at-requires : (t : ℕ) → at-lts.Need-at-requires (calls-at t) (at-at t) at.Post
+at-at-requires t c κs = let d = c .before .before .before .before .before .before .before .before .before .before .before .before .before .before .before .before .before .before .before .before .before .pre .1 .1 .0 in let v = at-view t (c .before .before .before .before .before .before .before .before .before) (d .tree) (d .at) in let f = at-fits t (c .before .before .before .before .before .before .before .before .before .before .before .before .before .before .before .before) (d .tree) (d .at) in let e = at-right t (c .before .before .before .before) (v .atRight) in (omega (arith, c .before .before .before .before .before .before .before .before .before .before .before .before .before .before .before .before .before .before .before .before .before .pre .0, low-most (d .tree) (d .at) _ (c .before .before .before .before .before .before .before .before .before .before .before .before .before .before .before .before .below .ensures (d .tree) (d .at)), left-falls (at-read t (c .before .before .before .before .before .before .before .before .before .before .before .before)) v _ e), (c .before .before .before .before .before .before .before .before .before .before .before .before .before .before .before .before .before .before .before .before .before .pre .1 .0, (ready-left (c .before .before .before .before .before .before .before .before .before .before .before .before .before .before .before .before .before .before .before .before .before .args .text .now) v _ e f, c .before .before .before .before .before .before .before .before .before .before .before .before .before .before .before .before .before .before .before .before .before .pre .1 .1 .1)))
+
+at-enum-known-q : (t : ℕ) → at-lts.Need-enum-known-q (calls-at t) (at-at t) at.Post
+at-enum-known-q t c = search needs
+
+at-enum-told-5 : (t : ℕ) → at-lts.Need-enum-told-5 (calls-at t) (at-at t) at.Post
+at-enum-told-5 t c = search needs
+
+at-same-length-5 : (t : ℕ) → at-lts.Need-same-length-5 (calls-at t) (at-at t) at.Post
+at-same-length-5 t c = search needs
+
+at-same-length-6 : (t : ℕ) → at-lts.Need-same-length-6 (calls-at t) (at-at t) at.Post
+at-same-length-6 t c = search needs
+
+at-returns-5 : (t : ℕ) → at-lts.Need-returns-5 (calls-at t) (at-at t) at.Post
+at-returns-5 t c = let d = c .before .before .before .before .before .before .before .before .before .before .before .before .before .before .before .before .before .before .before .before .before .before .before .before .before .before .before .before .pre .1 .1 .0 in let v = at-view t (c .before .before .before .before .before .before .before .before .before .before .before .before .before .before .before .before) (d .tree) (d .at) in let e = at-right t (c .before .before .before .before .before .before .before .before .before .before .before) (v .atRight) in absurd (kept-full _ _ _ _ _ _ (c .enum-told5 .given .1) (c .before .before .before .before .before .before .at .ensures (v .left) (left-at v _ e)))
+
+at-at-requires-2 : (t : ℕ) → at-lts.Need-at-requires-2 (calls-at t) (at-at t) at.Post
+at-at-requires-2 t c κs = let d = c .before .before .before .before .before .before .before .before .before .before .before .before .before .before .before .before .before .before .before .before .before .before .before .before .before .before .before .before .before .before .before .pre .1 .1 .0 in let v = at-view t (c .before .before .before .before .before .before .before .before .before .before .before .before .before .before .before .before .before .before .before) (d .tree) (d .at) in let f = at-fits t (c .before .before .before .before .before .before .before .before .before .before .before .before .before .before .before .before .before .before .before .before .before .before .before .before .before .before) (d .tree) (d .at) in let u = c .before .before .before .before .before .before .before .before .before .before .before .before .before .before .before .before .before .before .before .before .before .before .before .before .before .before .before .before .before .before .before .pre .1 .1 .1 in let k = c .before .before .before .before .before .before .before .before .before .at .kept .1 .1 .1 .1 in
+    (omega (arith, c .before .before .before .before .before .before .before .before .before .before .before .before .before .before .before .before .before .before .before .before .before .before .before .before .before .before .before .before .before .before .before .pre .0, low-most (d .tree) (d .at) _ (c .before .before .before .before .before .before .before .before .before .before .before .before .before .before .before .before .before .before .before .before .before .before .before .before .before .before .below .ensures (d .tree) (d .at)), right-falls (at-read t (c .before .before .before .before .before .before .before .before .before .before .before .before .before .before .before .before .before .before .before .before .before .before)) v), (c .before .before .before .before .before .before .before .before .before .before .before .before .before .before .before .before .before .before .before .before .before .before .before .before .before .before .before .before .before .before .before .pre .1 .0, (record { tree = v .right; at = v .atRight; fits = right-fits (c .before .before .before .before .before .before .before .before .before .before .before .before .before .before .before .before .before .before .before .before .before .before .before .before .before .before .before .before .before .before .before .args .tight) _ (side-kept t (c .before .before) (d .tree) (d .at)) (k .0) (k .1 .0) (rw (v .is) at f) }, record { words = omega (arith, u .words, k .0); bytes = omega (arith, u .bytes, k .1 .0) })))
+
+at-enum-known-s : (t : ℕ) → at-lts.Need-enum-known-s (calls-at t) (at-at t) at.Post
+at-enum-known-s t c = search needs
+
+at-enum-told-6 : (t : ℕ) → at-lts.Need-enum-told-6 (calls-at t) (at-at t) at.Post
+at-enum-told-6 t c = search needs
+
+at-same-length-7 : (t : ℕ) → at-lts.Need-same-length-7 (calls-at t) (at-at t) at.Post
+at-same-length-7 t c = search needs
+
+at-same-length-8 : (t : ℕ) → at-lts.Need-same-length-8 (calls-at t) (at-at t) at.Post
+at-same-length-8 t c = search needs
+
+at-returns-6 : (t : ℕ) → at-lts.Need-returns-6 (calls-at t) (at-at t) at.Post
+at-returns-6 t c = let d = c .before .before .before .before .before .before .before .before .before .before .before .before .before .before .before .before .before .before .before .before .before .before .before .before .before .before .before .before .before .before .before .before .before .before .before .before .before .before .pre .1 .1 .0 in let v = at-view t (c .before .before .before .before .before .before .before .before .before .before .before .before .before .before .before .before .before .before .before .before .before .before .before .before .before .before) (d .tree) (d .at) in absurd (kept-full _ _ _ _ _ _ (c .enum-told6 .given .1) (c .before .before .before .before .before .before .at2 .ensures (v .right) (v .atRight)))
+
+at-end-requires : (t : ℕ) → at-lts.Need-end-requires (calls-at t) (at-at t) at.Post
+at-end-requires t c κs = let d = c .before .before .before .before .before .before .before .before .before .before .before .before .before .before .before .before .before .before .before .before .before .before .before .before .before .before .before .before .before .before .before .before .before .before .before .before .before .before .before .before .pre .1 .1 .0 in let k = c .before .before .before .before .before .before .before .before .before .before .before .before .before .before .before .before .before .before .at .kept .1 .1 .1 .1 in let m = c .before .before .before .before .before .before .before .before .at2 .kept .1 .1 .1 .1 in
+    (both-order (c .before .before .before .before .before .before .before .before .before .before .before .before .before .before .before .before .before .before .before .before .before .before .before .before .before .before .before .before .before .before .before .before .before .before .before .before .before .before .before .before .args .tight) _ (side-kept t (c .before .before .before .before .before .before .before .before .before .before .before) (d .tree) (d .at)) (k .0) _ (side-kept-2 t (c .before) (d .tree) (d .at)) (m .0), omega (arith, sides-room t (c .before) (d .tree) (d .at), m .0, k .0, c .before .before .before .before .before .before .before .before .before .before .before .before .before .before .before .before .before .before .before .before .before .before .before .before .before .before .before .before .before .before .before .before .before .before .before .before .before .before .before .before .pre .1 .1 .1 .words))
+
+at-enum-known-e-2 : (t : ℕ) → at-lts.Need-enum-known-e-2 (calls-at t) (at-at t) at.Post
+at-enum-known-e-2 t c = search needs
+
+at-enum-told-7 : (t : ℕ) → at-lts.Need-enum-told-7 (calls-at t) (at-at t) at.Post
+at-enum-told-7 t c = search needs
+
+at-same-length-9 : (t : ℕ) → at-lts.Need-same-length-9 (calls-at t) (at-at t) at.Post
+at-same-length-9 t c = c .before .before .before .before .end .kept .0 ∙ c .before .before .before .before .before .before .before .before .before .before .before .before .before .at2 .kept .1 .1 .1 .1 .0 ∙ c .before .before .before .before .before .before .before .before .before .before .before .before .before .before .before .before .before .before .before .before .before .before .before .at .kept .1 .1 .1 .1 .0
+
+at-same-length-10 : (t : ℕ) → at-lts.Need-same-length-10 (calls-at t) (at-at t) at.Post
+at-same-length-10 t c = c .before .before .before .before .before .before .before .before .before .before .before .before .before .at2 .kept .1 .1 .1 .1 .1 .0 ∙ c .before .before .before .before .before .before .before .before .before .before .before .before .before .before .before .before .before .before .before .before .before .before .before .at .kept .1 .1 .1 .1 .1 .0
+
+at-returns-7 : (t : ℕ) → at-lts.Need-returns-7 (calls-at t) (at-at t) at.Post
+at-returns-7 t c = let d = c .before .before .before .before .before .before .before .before .before .before .before .before .before .before .before .before .before .before .before .before .before .before .before .before .before .before .before .before .before .before .before .before .before .before .before .before .before .before .before .before .before .before .before .before .before .pre .1 .1 .0 in absurd (kept-full _ _ _ _ _ _ (c .enum-told7 .given .1) (plain-answer t (c .before .before .before .before) (d .tree) (d .at)))
+
+at-raise-requires-2 : (t : ℕ) → at-lts.Need-raise-requires-2 (calls-at t) (at-at t) at.Post
+at-raise-requires-2 t c κs = let d = c .before .before .before .before .before .before .before .before .before .before .before .before .before .before .before .before .before .before .before .before .before .before .before .before .before .before .before .before .before .before .before .before .before .before .before .before .before .before .before .before .before .before .before .before .before .before .before .pre .1 .1 .0 in run-raisable (factored (c .before .before .before .before .before .before .before .before .before .before .before .before .before .before .before .before .before .before .before .before .before .before .before .before .before .before .before .before .before .before .before .before .before .before .before .before .before .before .before .before .before .before .before .before .before .before .before .args .tight)) (factored-un (c .before .before .before .before .before .before .before .before .before .before .before .before .before .before .before .before .before .before .before .before .before .before .before .before .before .before .before .before .before .before .before .before .before .before .before .before .before .before .before .before .before .before .before .before .before .before .before .args .tight)) (c .before .before .before .before .before .before .before .before .before .before .before .before .before .before .before .before .before .before .before .before .before .before .before .before .before .before .before .before .before .before .before .before .before .before .before .before .before .before .before .before .before .before .before .before .before .before .before .args .text .now) (d .tree) (plain t (c .before) (d .tree) (d .at)) (factored-size (c .before .before .before .before .before .before .before .before .before .before .before .before .before .before .before .before .before .before .before .before .before .before .before .before .before .before .before .before .before .before .before .before .before .before .before .before .before .before .before .before .before .before .before .before .before .before .before .args .tight) _) _ (d .at) (c .before .before .before .before .before .before .before .before .before .before .before .before .before .before .before .before .before .before .before .before .before .before .before .before .before .before .before .before .before .before .before .before .before .before .before .before .before .before .before .before .before .before .below .ensures (d .tree) (d .at)) (d .fits) (c .before .before .before .before .before .before .end .kept .0 ∙ c .before .before .before .before .before .before .before .before .before .before .before .before .before .before .before .at2 .kept .1 .1 .1 .1 .0 ∙ c .before .before .before .before .before .before .before .before .before .before .before .before .before .before .before .before .before .before .before .before .before .before .before .before .before .at .kept .1 .1 .1 .1 .0) (c .before .before .before .before .before .before .before .before .before .before .before .before .before .before .before .before .before .before .before .before .before .before .before .before .before .before .before .before .before .before .before .before .before .before .before .before .before .before .before .before .before .before .before .before .before .before .before .pre .1 .1 .1 .words)
+
+at-keep-requires : (t : ℕ) → at-lts.Need-keep-requires (calls-at t) (at-at t) at.Post
+at-keep-requires t c κs = c .before .before .before .before .before .before .before .before .before .before .before .before .before .pre .1
+
+at-same-length-11 : (t : ℕ) → at-lts.Need-same-length-11 (calls-at t) (at-at t) at.Post
+at-same-length-11 t c = c .before .before .raise2 .kept .1 .1 .1 .0 ∙ c .before .before .before .before .before .before .before .before .before .end .kept .0 ∙ c .before .before .before .before .before .before .before .before .before .before .before .before .before .before .before .before .before .before .at2 .kept .1 .1 .1 .1 .0 ∙ c .before .before .before .before .before .before .before .before .before .before .before .before .before .before .before .before .before .before .before .before .before .before .before .before .before .before .before .before .at .kept .1 .1 .1 .1 .0
+
+at-same-length-12 : (t : ℕ) → at-lts.Need-same-length-12 (calls-at t) (at-at t) at.Post
+at-same-length-12 t c = c .before .before .before .before .before .before .before .before .before .before .before .before .before .before .before .before .before .before .at2 .kept .1 .1 .1 .1 .1 .0 ∙ c .before .before .before .before .before .before .before .before .before .before .before .before .before .before .before .before .before .before .before .before .before .before .before .before .before .before .before .before .at .kept .1 .1 .1 .1 .1 .0
+
+at-returns-8 : (t : ℕ) → at-lts.Need-returns-8 (calls-at t) (at-at t) at.Post
+at-returns-8 t c = λ r a. run-kept (factored (c .before .before .before .before .before .before .before .before .before .before .before .before .before .before .before .before .before .before .before .before .before .before .before .before .before .before .before .before .before .before .before .before .before .before .before .before .before .before .before .before .before .before .before .before .before .before .before .before .before .before .args .tight)) (factored-un (c .before .before .before .before .before .before .before .before .before .before .before .before .before .before .before .before .before .before .before .before .before .before .before .before .before .before .before .before .before .before .before .before .before .before .before .before .before .before .before .before .before .before .before .before .before .before .before .before .before .before .args .tight)) (c .before .before .before .before .before .before .before .before .before .before .before .before .before .before .before .before .before .before .before .before .before .before .before .before .before .before .before .before .before .before .before .before .before .before .before .before .before .before .before .before .before .before .before .before .before .before .before .before .before .before .args .text .now) r (plain t (c .before .before .before .before) r a) (c .before .before .raise2 .result) (c .before .before .raise2 .last .1 .1 .1 .0) (c .before .before .raise2 .ensures r a)
+
+at-same-length-13 : (t : ℕ) → at-lts.Need-same-length-13 (calls-at t) (at-at t) at.Post
+at-same-length-13 t c = search needs
+
+at-same-length-14 : (t : ℕ) → at-lts.Need-same-length-14 (calls-at t) (at-at t) at.Post
+at-same-length-14 t c = search needs
+
+at-returns-9 : (t : ℕ) → at-lts.Need-returns-9 (calls-at t) (at-at t) at.Post
+at-returns-9 t c = λ r a. let x = c .before .before .before .before .before .before .before .before .before .before .before .before .before .before .before .before .before .before .args in rw (leaf-run (factored (x .tight)) (factored-un (x .tight)) (x .text .now) (factored-leaf (x .tight) (x .text .now)) r (λ e. else-two _ (c .before .before .before .before .before .before .before .match2 .keys2) (c .before .before .before .before .before .before .before .before .shape-of .ensures ∙ sym (found-shape (at-read t (c .before .before .before .before .before .before .before .before .before)) (at-low t (c .before .before .before .before .before .before .before .before .before .before .before .before .before) r a) refl) ∙ e))) (c .before .before .before .before .keep .ensures r a)
 
 both-at-requires : (t : ℕ) → both-lts.Need-at-requires (calls-both t) (both-at t) both.Post
 both-at-requires t c κs = let s = c .before .before .before .before .before .before in let g = s .pre .1 .1 .0 in
@@ -284,8 +416,8 @@ both-returns-3 t c = let s = c .before .before .before .before .before .before .
 children-row-at-requires : (t : ℕ) → children-lts.Need-row-at-requires (calls-children t) (children-at t) children.Post
 children-row-at-requires t c κs = search needs
 
-children-enum-known-kind : (t : ℕ) → children-lts.Need-enum-known-kind (calls-children t) (children-at t) children.Post
-children-enum-known-kind t c = search needs
+children-enum-known-k : (t : ℕ) → children-lts.Need-enum-known-k (calls-children t) (children-at t) children.Post
+children-enum-known-k t c = search needs
 
 children-enum-told : (t : ℕ) → children-lts.Need-enum-told (calls-children t) (children-at t) children.Post
 children-enum-told t c = search needs
@@ -293,42 +425,8 @@ children-enum-told t c = search needs
 children-returns : (t : ℕ) → children-lts.Need-returns (calls-children t) (children-at t) children.Post
 children-returns t c = absurd (root-there (c .before .before .before .before .before .before .before .pre .1 .1 .0 .at) (sym (c .before .before .row-at .ensures) ∙ c .enum-told .given .1))
 
-children-shape-of-requires : (t : ℕ) → children-lts.Need-shape-of-requires (calls-children t) (children-at t) children.Post
-children-shape-of-requires t c κs = search needs
-
-children-enum-told-2 : (t : ℕ) → children-lts.Need-enum-told-2 (calls-children t) (children-at t) children.Post
-children-enum-told-2 t c = search needs
-
-children-keep-requires : (t : ℕ) → children-lts.Need-keep-requires (calls-children t) (children-at t) children.Post
-children-keep-requires t c κs = search needs
-
-children-enum-told-3 : (t : ℕ) → children-lts.Need-enum-told-3 (calls-children t) (children-at t) children.Post
-children-enum-told-3 t c = search needs
-
-children-keep-requires-2 : (t : ℕ) → children-lts.Need-keep-requires-2 (calls-children t) (children-at t) children.Post
-children-keep-requires-2 t c κs = search needs
-
-children-enum-told-4 : (t : ℕ) → children-lts.Need-enum-told-4 (calls-children t) (children-at t) children.Post
-children-enum-told-4 t c = search needs
-
-children-keep-requires-3 : (t : ℕ) → children-lts.Need-keep-requires-3 (calls-children t) (children-at t) children.Post
-children-keep-requires-3 t c κs = search needs
-
-children-enum-told-5 : (t : ℕ) → children-lts.Need-enum-told-5 (calls-children t) (children-at t) children.Post
-children-enum-told-5 t c = search needs
-
-children-sub-at : (t : ℕ) → children-lts.Need-sub-at (calls-children t) (children-at t) children.Post
-children-sub-at t c = let v = one-view t c in omega (arith, v .least, v .most)
-
 children-at-requires : (t : ℕ) → children-lts.Need-at-requires (calls-children t) (children-at t) children.Post
-children-at-requires t c κs = let s = c .before .before .before .before .before .before .before .before .before .before .before .before .before in let v = one-view t (c .before .before) in
-    (omega (arith, s .pre .0, root (v .at) .rows, root (s .pre .1 .1 .0 .at) .rows, found-size (read t (c .before .before .before .before .before)) (s .pre .1 .1 .0 .at), v .rows), (s .pre .1 .0, (record { tree = v .child; at = v .at; fits = fits-un (rw (v .is) at (s .pre .1 .1 .0 .fits)) }, s .pre .1 .1 .1)))
-
-children-enum-known-q : (t : ℕ) → children-lts.Need-enum-known-q (calls-children t) (children-at t) children.Post
-children-enum-known-q t c = search needs
-
-children-enum-told-6 : (t : ℕ) → children-lts.Need-enum-told-6 (calls-children t) (children-at t) children.Post
-children-enum-told-6 t c = search needs
+children-at-requires t c κs = let s = c .before .before .before .before .before .before .before .before .before .before .before in (omega (arith, s .pre .0), s .pre .1)
 
 children-same-length : (t : ℕ) → children-lts.Need-same-length (calls-children t) (children-at t) children.Post
 children-same-length t c = search needs
@@ -337,17 +435,10 @@ children-same-length-2 : (t : ℕ) → children-lts.Need-same-length-2 (calls-ch
 children-same-length-2 t c = search needs
 
 children-returns-2 : (t : ℕ) → children-lts.Need-returns-2 (calls-children t) (children-at t) children.Post
-children-returns-2 t c = let v = one-view t (c .before .before .before .before .before .before .before .before .before) in λ r a. kept-full _ _ _ _ _ _ (c .enum-told6 .given .1) (c .before .before .before .before .before .before .at .ensures (v .child) (v .at))
-
-children-end-requires : (t : ℕ) → children-lts.Need-end-requires (calls-children t) (children-at t) children.Post
-children-end-requires t c κs = let s = c .before .before .before .before .before .before .before .before .before .before .before .before .before .before .before .before .before .before .before .before .before .before in let d = c .before .before .before .before .before .before .before .before .at in let v = one-view t (c .before .before .before .before .before .before .before .before .before .before .before) in let w = child-kept t (c .before) in
-    (kept-order (s .args .tight) _ w (d .kept .1 .1 .1 .1 .0), omega (arith, un-room (s .args .tight) _ w (d .kept .1 .1 .1 .1 .0) (rw (v .is) at (s .pre .1 .1 .0 .fits)), d .kept .1 .1 .1 .1 .0, s .pre .1 .1 .1 .words))
-
-children-enum-told-7 : (t : ℕ) → children-lts.Need-enum-told-7 (calls-children t) (children-at t) children.Post
-children-enum-told-7 t c = search needs
+children-returns-2 t c = let s = c .before .before .before .before .before .before .before .before .before .before .before .before .before .before .before .before in λ r a. rw (← (other-is (s .args .tight) (s .args .text .now) (children-read t (c .before .before .before .before .before .before .before .before)) a (c .before .before .before .before .before .before .before .if1 .taken))) (c .before .before .before .before .at .ensures r a)
 
 children-sub-right : (t : ℕ) → children-lts.Need-sub-right (calls-children t) (children-at t) children.Post
-children-sub-right t c = let v = two-view t c in omega (arith, v .leastLeft, v .most)
+children-sub-right t c = let v = children-view t c in omega (arith, v .leastLeft, v .most)
 
 children-row-at-requires-2 : (t : ℕ) → children-lts.Need-row-at-requires-2 (calls-children t) (children-at t) children.Post
 children-row-at-requires-2 t c κs = search needs
@@ -355,21 +446,21 @@ children-row-at-requires-2 t c κs = search needs
 children-enum-known-n : (t : ℕ) → children-lts.Need-enum-known-n (calls-children t) (children-at t) children.Post
 children-enum-known-n t c = search needs
 
-children-enum-told-8 : (t : ℕ) → children-lts.Need-enum-told-8 (calls-children t) (children-at t) children.Post
-children-enum-told-8 t c = search needs
+children-enum-told-2 : (t : ℕ) → children-lts.Need-enum-told-2 (calls-children t) (children-at t) children.Post
+children-enum-told-2 t c = search needs
 
 children-returns-3 : (t : ℕ) → children-lts.Need-returns-3 (calls-children t) (children-at t) children.Post
-children-returns-3 t c = absurd (root-there (two-view t (c .before .before .before) .atRight) (sym (c .before .before .row-at2 .ensures) ∙ c .enum-told8 .given .1))
+children-returns-3 t c = absurd (root-there (children-view t (c .before .before .before) .atRight) (sym (c .before .before .row-at2 .ensures) ∙ c .enum-told2 .given .1))
 
 children-wide-requires : (t : ℕ) → children-lts.Need-wide-requires (calls-children t) (children-at t) children.Post
 children-wide-requires t c κs = search needs
 
 children-sub-left : (t : ℕ) → children-lts.Need-sub-left (calls-children t) (children-at t) children.Post
-children-sub-left t c = let v = two-view t (c .before .before .before .before .before) in omega (arith, right-size t c (v .atRight), v .leastLeft, v .most)
+children-sub-left t c = let v = children-view t (c .before .before .before .before .before) in omega (arith, children-right t c (v .atRight), v .leastLeft, v .most)
 
 children-both-requires : (t : ℕ) → children-lts.Need-both-requires (calls-children t) (children-at t) children.Post
-children-both-requires t c κs = let s = c .before .before .before .before .before .before .before .before .before .before .before .before .before .before .before .before .before .before in let v = two-view t (c .before .before .before .before .before .before .before) in let l = left-at v _ (right-size t (c .before .before) (v .atRight)) in
-    (omega (arith, s .pre .0, root l .rows, root (v .atRight) .rows, root (s .pre .1 .1 .0 .at) .rows, found-size (read t (c .before .before .before .before .before .before .before .before .before .before)) (s .pre .1 .1 .0 .at), v .rows), (s .pre .1 .0, (record { left = v .left; right = v .right; atLeft = l; atRight = v .atRight; fits = fits-choice (rw (v .is) at (s .pre .1 .1 .0 .fits)) }, s .pre .1 .1 .1)))
+children-both-requires t c κs = let s = c .before .before .before .before .before .before .before .before .before .before .before .before .before .before .before .before in let v = children-view t (c .before .before .before .before .before .before .before) in let l = left-at v _ (children-right t (c .before .before) (v .atRight)) in
+    (omega (arith, s .pre .0, root l .rows, root (v .atRight) .rows, root (s .pre .1 .1 .0 .at) .rows, found-size (children-read t (c .before .before .before .before .before .before .before .before)) (s .pre .1 .1 .0 .at), v .rows), (s .pre .1 .0, (record { left = v .left; right = v .right; atLeft = l; atRight = v .atRight; fits = fits-choice (rw (v .is) at (s .pre .1 .1 .0 .fits)) }, s .pre .1 .1 .1)))
 
 children-same-length-3 : (t : ℕ) → children-lts.Need-same-length-3 (calls-children t) (children-at t) children.Post
 children-same-length-3 t c = search needs
@@ -378,48 +469,9 @@ children-same-length-4 : (t : ℕ) → children-lts.Need-same-length-4 (calls-ch
 children-same-length-4 t c = search needs
 
 children-returns-4 : (t : ℕ) → children-lts.Need-returns-4 (calls-children t) (children-at t) children.Post
-children-returns-4 t c = let s = c .before .before .before .before .before .before .before .before .before .before .before .before .before .before .before .before .before .before in λ r a. rw (leaf-is (s .args .tight) (s .args .text .now) (read t (c .before .before .before .before .before .before .before .before .before .before)) a (sym (c .before .before .before .before .before .before .before .before .before .shape-of .ensures) ∙ c .before .before .before .before .before .before .before .enum-told2 .given .1) tt) (c .before .before .before .before .keep .ensures r a)
-
-children-same-length-5 : (t : ℕ) → children-lts.Need-same-length-5 (calls-children t) (children-at t) children.Post
-children-same-length-5 t c = search needs
-
-children-same-length-6 : (t : ℕ) → children-lts.Need-same-length-6 (calls-children t) (children-at t) children.Post
-children-same-length-6 t c = search needs
-
-children-returns-5 : (t : ℕ) → children-lts.Need-returns-5 (calls-children t) (children-at t) children.Post
-children-returns-5 t c = let s = c .before .before .before .before .before .before .before .before .before .before .before .before .before .before .before .before .before .before in λ r a. rw (leaf-is (s .args .tight) (s .args .text .now) (read t (c .before .before .before .before .before .before .before .before .before .before)) a (sym (c .before .before .before .before .before .before .before .before .before .shape-of .ensures) ∙ c .before .before .before .before .before .before .before .enum-told3 .given .1) tt) (c .before .before .before .before .keep2 .ensures r a)
-
-children-same-length-7 : (t : ℕ) → children-lts.Need-same-length-7 (calls-children t) (children-at t) children.Post
-children-same-length-7 t c = search needs
-
-children-same-length-8 : (t : ℕ) → children-lts.Need-same-length-8 (calls-children t) (children-at t) children.Post
-children-same-length-8 t c = search needs
-
-children-returns-6 : (t : ℕ) → children-lts.Need-returns-6 (calls-children t) (children-at t) children.Post
-children-returns-6 t c = let s = c .before .before .before .before .before .before .before .before .before .before .before .before .before .before .before .before .before .before in λ r a. rw (leaf-is (s .args .tight) (s .args .text .now) (read t (c .before .before .before .before .before .before .before .before .before .before)) a (sym (c .before .before .before .before .before .before .before .before .before .shape-of .ensures) ∙ c .before .before .before .before .before .before .before .enum-told4 .given .1) tt) (c .before .before .before .before .keep3 .ensures r a)
-
-children-same-length-9 : (t : ℕ) → children-lts.Need-same-length-9 (calls-children t) (children-at t) children.Post
-children-same-length-9 t c = search needs
-
-children-same-length-10 : (t : ℕ) → children-lts.Need-same-length-10 (calls-children t) (children-at t) children.Post
-children-same-length-10 t c = search needs
-
-children-returns-7 : (t : ℕ) → children-lts.Need-returns-7 (calls-children t) (children-at t) children.Post
-children-returns-7 t c = let s = c .before .before .before .before .before .before .before .before .before .before .before .before .before .before .before .before .before .before .before .before .before .before .before .before .before in let d = c .before .before .before .before .before .before .before .before .before .before .before .at in
-    λ r a. let v = as-one (read t (c .before .before .before .before .before .before .before .before .before .before .before .before .before .before .before .before .before)) a (is-one t (c .before .before .before .before .before .before .before .before .before .before .before .before .before .before)) in
-    let w = kept-done _ _ _ _ _ _ (c .before .before .before .before .before .q .given .1) (d .ensures (v .child) (v .at)) in
-    rw (one-is (s .args .tight) (s .args .text .now) v) (un-answer (c .before .before .end .result) (c .before .before .end .last .0) (v .op) w (v .head) (un-room (s .args .tight) _ w (d .kept .1 .1 .1 .1 .0) (rw (v .is) at (ready-fits (s .pre .1 .1 .0) r a))) (c .before .before .end .ensures))
-
-children-same-length-11 : (t : ℕ) → children-lts.Need-same-length-11 (calls-children t) (children-at t) children.Post
-children-same-length-11 t c = search needs
-
-children-same-length-12 : (t : ℕ) → children-lts.Need-same-length-12 (calls-children t) (children-at t) children.Post
-children-same-length-12 t c = search needs
-
-children-returns-8 : (t : ℕ) → children-lts.Need-returns-8 (calls-children t) (children-at t) children.Post
-children-returns-8 t c = let s = c .before .before .before .before .before .before .before .before .before .before .before .before .before .before .before .before .before .before .before .before .before .before .before in
-    λ r a. let v = as-two (read t (c .before .before .before .before .before .before .before .before .before .before .before .before .before .before .before)) a (is-two t (c .before .before .before .before .before .before .before .before .before .before .before .before)) in
-    rw (two-are (s .args .tight) (s .args .text .now) v) (c .before .before .before .before .both .ensures (v .op) (v .left) (v .right) (v .kind) (left-at v _ (right-size t (c .before .before .before .before .before .before .before) (v .atRight))) (v .atRight))
+children-returns-4 t c = let s = c .before .before .before .before .before .before .before .before .before .before .before .before .before .before .before .before .before .before .before .before .before in
+    λ r a. let v = choice-view (children-read t (c .before .before .before .before .before .before .before .before .before .before .before .before .before)) a (c .before .before .before .before .before .before .before .before .before .before .before .before .if1 .left) in
+    rw (two-are (s .args .tight) (s .args .text .now) v) (c .before .before .before .before .both .ensures (v .op) (v .left) (v .right) (sym (c .before .before .before .before .before .before .before .before .before .before .before .before .if1 .left) ∙ v .kind) (left-at v _ (children-right t (c .before .before .before .before .before .before .before) (v .atRight))) (v .atRight))
 
 choice-case-of-requires : (t : ℕ) → choice-lts.Need-case-of-requires (calls-choice t) (choice-at t) choice.Post
 choice-case-of-requires t c κs = let s = c .before .before .before .before in let g = s .pre .1 .1 .0 in (s .pre .1 .0, (record { tree = g .left; at = g .atLeft }, record { tree = g .right; at = g .atRight }))
@@ -538,7 +590,7 @@ choice-enum-told-6 t c = search needs
 
 choice-children-requires : (t : ℕ) → choice-lts.Need-children-requires (calls-choice t) (choice-at t) choice.Post
 choice-children-requires t c κs = let s = c .before .before .before .before .before .before .before .before .before in let g = s .pre .1 .1 .0 in
-    (omega (arith, s .pre .0, root (g .atLeft) .rows, root (g .atRight) .least), (s .pre .1 .0, (record { tree = g .left; at = g .atLeft; fits = fits-left (g .fits) }, s .pre .1 .1 .1)))
+    (omega (arith, s .pre .0, root (g .atLeft) .rows, root (g .atRight) .rows, root (g .atRight) .least), (s .pre .1 .0, (record { tree = g .left; at = g .atLeft; fits = fits-left (g .fits) }, s .pre .1 .1 .1)))
 
 choice-enum-told-7 : (t : ℕ) → choice-lts.Need-enum-told-7 (calls-choice t) (choice-at t) choice.Post
 choice-enum-told-7 t c = search needs
@@ -603,27 +655,58 @@ pub +at+both+children+choice-spec : {M : Type 1} → statement M
 +at+both+children+choice-spec = close μ-at μ-both μ-children μ-choice (λ t. at-lts.spec (calls-at t)
     (at-at t)
     at.Post
+    (at-below-requires t)
     (at-row-at-requires t)
-    (at-enum-known-k t)
+    (at-enum-known-kind t)
     (at-enum-told t)
     (at-returns t)
-    (at-children-requires t)
-    (at-same-length t)
-    (at-same-length-2 t)
-    (at-returns-2 t)
+    (at-shape-of-requires t)
+    (at-enum-told-2 t)
     (at-sub-right t)
     (at-row-at-requires-2 t)
     (at-enum-known-n t)
-    (at-enum-told-2 t)
-    (at-returns-3 t)
+    (at-enum-told-3 t)
+    (at-returns-2 t)
     (at-wide-requires t)
     (at-sub-left t)
+    (at-fires-at-requires t)
     (at-choice-requires t)
+    (at-enum-known-e t)
+    (at-enum-told-4 t)
+    (at-same-length t)
+    (at-same-length-2 t)
+    (at-returns-3 t)
+    (at-raise-requires t)
     (at-same-length-3 t)
     (at-same-length-4 t)
-    (at-returns-4 t))
-    (λ t. both-lts.spec
-    (at-below t, at.Post, end-reads.Asked, end-reads.Learnt)
+    (at-returns-4 t)
+    (at-at-requires t)
+    (at-enum-known-q t)
+    (at-enum-told-5 t)
+    (at-same-length-5 t)
+    (at-same-length-6 t)
+    (at-returns-5 t)
+    (at-at-requires-2 t)
+    (at-enum-known-s t)
+    (at-enum-told-6 t)
+    (at-same-length-7 t)
+    (at-same-length-8 t)
+    (at-returns-6 t)
+    (at-end-requires t)
+    (at-enum-known-e-2 t)
+    (at-enum-told-7 t)
+    (at-same-length-9 t)
+    (at-same-length-10 t)
+    (at-returns-7 t)
+    (at-raise-requires-2 t)
+    (at-keep-requires t)
+    (at-same-length-11 t)
+    (at-same-length-12 t)
+    (at-returns-8 t)
+    (at-same-length-13 t)
+    (at-same-length-14 t)
+    (at-returns-9 t))
+    (λ t. both-lts.spec (calls-both t)
     (both-at t)
     both.Post
     (both-at-requires t)
@@ -642,82 +725,29 @@ pub +at+both+children+choice-spec : {M : Type 1} → statement M
     (both-same-length-5 t)
     (both-same-length-6 t)
     (both-returns-3 t))
-    (λ t. children-lts.spec (
-      row-at-reads.Asked,
-      row-at-reads.Learnt,
-      shape-of-reads.Asked,
-      shape-of-reads.Learnt,
-      keep-reads.Asked,
-      keep-reads.Learnt,
-      at-below t,
-      at.Post,
-      end-reads.Asked,
-      end-reads.Learnt,
-      wide-reads.Asked,
-      wide-reads.Learnt,
-      both-below t,
-      both.Post,
-    )
+    (λ t. children-lts.spec (calls-children t)
     (children-at t)
     children.Post
     (children-row-at-requires t)
-    (children-enum-known-kind t)
+    (children-enum-known-k t)
     (children-enum-told t)
     (children-returns t)
-    (children-shape-of-requires t)
-    (children-enum-told-2 t)
-    (children-keep-requires t)
-    (children-enum-told-3 t)
-    (children-keep-requires-2 t)
-    (children-enum-told-4 t)
-    (children-keep-requires-3 t)
-    (children-enum-told-5 t)
-    (children-sub-at t)
     (children-at-requires t)
-    (children-enum-known-q t)
-    (children-enum-told-6 t)
     (children-same-length t)
     (children-same-length-2 t)
     (children-returns-2 t)
-    (children-end-requires t)
-    (children-enum-told-7 t)
     (children-sub-right t)
     (children-row-at-requires-2 t)
     (children-enum-known-n t)
-    (children-enum-told-8 t)
+    (children-enum-told-2 t)
     (children-returns-3 t)
     (children-wide-requires t)
     (children-sub-left t)
     (children-both-requires t)
     (children-same-length-3 t)
     (children-same-length-4 t)
-    (children-returns-4 t)
-    (children-same-length-5 t)
-    (children-same-length-6 t)
-    (children-returns-5 t)
-    (children-same-length-7 t)
-    (children-same-length-8 t)
-    (children-returns-6 t)
-    (children-same-length-9 t)
-    (children-same-length-10 t)
-    (children-returns-7 t)
-    (children-same-length-11 t)
-    (children-same-length-12 t)
-    (children-returns-8 t))
-    λ t. choice-lts.spec (
-      case-of-reads.Asked,
-      case-of-reads.Learnt,
-      at-below t,
-      at.Post,
-      choice-below t,
-      choice.Post,
-      end-reads.Asked,
-      end-reads.Learnt,
-      children-below t,
-      children.Post,
-      both-below t,
-      both.Post,
-    )
+    (children-returns-4 t))
+    λ t. choice-lts.spec (calls-choice t)
     (choice-at t)
     choice.Post
     (choice-case-of-requires t)
