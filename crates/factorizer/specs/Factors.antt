@@ -22,6 +22,11 @@ factored tight e = topDown (orSame (factor? tight)) e
 abbrev pub beneath : Bool → E → E
 beneath tight e = children (factored tight) e
 
+-- the first of two trees, or the Choice of both, with factored children
+abbrev pub untried : Bool → Bool → E → E → E
+untried true tight x y = beneath tight x
+untried false tight x y = bin Choice (factored tight x) (factored tight y)
+
 -- whether a node e of kind k is a Choice that factor rewrites
 abbrev pub FiresTold : Bool → ℕ → Bool → E → Type 0
 FiresTold true k tight e = k ≡ 9

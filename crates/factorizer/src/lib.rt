@@ -12,7 +12,7 @@ ghost use Rattle.grammar.specs.Steps.{isTight, factor?, factor};
 ghost use Rattle.rows.specs.Rows.{kindAt, Inside, At, Stands};
 ghost use Rattle.writing.specs.Writes.{Areas, RowAnswer};
 ghost use Rattle.writing.specs.Keeps.{KeptAnswer, Ready};
-ghost use Rattle.factorizer.specs.Factors.{factored, beneath, ReadyBoth, FiresTold};
+ghost use Rattle.factorizer.specs.Factors.{factored, beneath, untried, ReadyBoth, FiresTold};
 ghost use Rattle.factorizer.specs.Cases.{SidesTold, CaseTold};
 use rows::Lookup;
 use rows::Shape;
@@ -255,10 +255,33 @@ pub fn choice(
             };
             end(out, p, u, 8, 0, 0)
         }
-        // the root of what is left is not tried again
-        Case::First => children(rows, text, l, tight, out, lits, p),
-        Case::Plain => both(rows, text, l, r, tight, 9, out, lits, p),
+        Case::First => untried(rows, text, l, r, true, tight, out, lits, p),
+        Case::Plain => untried(rows, text, l, r, false, tight, out, lits, p),
     }
+}
+
+// Writes the subtree of row l, or the Choice of the subtrees of rows l and r, with factored children: its root is not tried again.
+// A function of its own: written out in `choice`, its calls take 64 bytes more of stack a level.
+pub fn untried(
+    rows: &[u32],
+    text: &[u8],
+    l: usize,
+    r: usize,
+    first: bool,
+    tight: bool,
+    out: &mut [u32],
+    lits: &mut [u8],
+    p: Place,
+) -> Wrote
+    requires { ⌜ Inside (now rows) (length (now text)) ⌝ }
+    requires { ⌜ ReadyBoth (now rows) (now text) l r p (now out) (now lits) ⌝ }
+    requires { ⌜ Areas (now out) (now lits) ⌝ }
+    ensures { λ a. ⌜ ((x y : Expr Span) → At (now (rows .entry)) l x → At (now (rows .entry)) r y → KeptAnswer a p (untried first tight (resolve (now (text .entry)) x) (resolve (now (text .entry)) y)) (now (out .entry)) (now (out .exit)) (now (lits .entry)) (now (lits .exit))) ⌝ }
+{
+    if first {
+        return children(rows, text, l, tight, out, lits, p);
+    }
+    both(rows, text, l, r, tight, 9, out, lits, p)
 }
 
 // Writes the row `root` as it is, with its children factored.

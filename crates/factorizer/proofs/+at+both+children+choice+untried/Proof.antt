@@ -1,4 +1,4 @@
--- `at`, `both`, `children` and `choice` meet their contracts; the measures are twice the size words, and one more where a call is on the same tree. Assumes nothing.
+-- `at`, `both`, `children`, `choice` and `untried` meet their contracts; the measures are three times the size words, and more where a call is on the same tree. Assumes nothing.
 use mathlib.Core.Path.{_≡_, refl, sym, ap, _∙_}
 use native.Mathlib.Omega.{arith}
 use Prim.Native.Nat.{_+_, _-_, _*_, _/_, ℕ, _<_}
@@ -26,16 +26,19 @@ use borrow.Fn.Kinds.{In}
 use borrow.Fn.PlainCycle.{Measures, is, falls, and}
 use Rattle.factorizer.proofs.at.Reads as at
 use Rattle.factorizer.proofs.at.Kinds as at-kinds
-use Rattle.factorizer.proofs.+at+both+children+choice.Lts-at as at-lts
+use Rattle.factorizer.proofs.+at+both+children+choice+untried.Lts-at as at-lts
 use Rattle.factorizer.proofs.both.Reads as both
 use Rattle.factorizer.proofs.both.Kinds as both-kinds
-use Rattle.factorizer.proofs.+at+both+children+choice.Lts-both as both-lts
+use Rattle.factorizer.proofs.+at+both+children+choice+untried.Lts-both as both-lts
 use Rattle.factorizer.proofs.children.Reads as children
 use Rattle.factorizer.proofs.children.Kinds as children-kinds
-use Rattle.factorizer.proofs.+at+both+children+choice.Lts-children as children-lts
+use Rattle.factorizer.proofs.+at+both+children+choice+untried.Lts-children as children-lts
 use Rattle.factorizer.proofs.choice.Reads as choice
 use Rattle.factorizer.proofs.choice.Kinds as choice-kinds
-use Rattle.factorizer.proofs.+at+both+children+choice.Lts-choice as choice-lts
+use Rattle.factorizer.proofs.+at+both+children+choice+untried.Lts-choice as choice-lts
+use Rattle.factorizer.proofs.untried.Reads as untried
+use Rattle.factorizer.proofs.untried.Kinds as untried-kinds
+use Rattle.factorizer.proofs.+at+both+children+choice+untried.Lts-untried as untried-lts
 use Rattle.chains.proofs.below.Reads as below-reads
 use Rattle.chains.proofs.raise.Reads as raise-reads
 use Rattle.factorizer.proofs.case_of.Reads as case-of-reads
@@ -45,20 +48,23 @@ use Rattle.rows.proofs.row_at.Reads as row-at-reads
 use Rattle.rows.proofs.shape_of.Reads as shape-of-reads
 use Rattle.rows.proofs.wide.Reads as wide-reads
 use Rattle.writing.proofs.keep.Reads as keep-reads
-use Rattle.factorizer.proofs.+at+both+children+choice.{statement}
-use Rattle.factorizer.proofs.+at+both+children+choice.Tie.{close}
+use Rattle.factorizer.proofs.+at+both+children+choice+untried.{statement}
+use Rattle.factorizer.proofs.+at+both+children+choice+untried.Tie.{close}
 
 abbrev μ-at : Measures 4 at-kinds.ps ℕ
-μ-at κs a = 2 * sizeAt (a .0 .now) (a .1 .1 .0)
+μ-at κs a = 3 * sizeAt (a .0 .now) (a .1 .1 .0)
 
 abbrev μ-both : Measures 4 both-kinds.ps ℕ
-μ-both κs a = 2 * (sizeAt (a .0 .now) (a .1 .1 .0) + sizeAt (a .0 .now) (a .1 .1 .1 .0))
+μ-both κs a = 3 * (sizeAt (a .0 .now) (a .1 .1 .0) + sizeAt (a .0 .now) (a .1 .1 .1 .0))
 
 abbrev μ-children : Measures 4 children-kinds.ps ℕ
-μ-children κs a = 2 * sizeAt (a .0 .now) (a .1 .1 .0) + 1
+μ-children κs a = 3 * sizeAt (a .0 .now) (a .1 .1 .0) + 1
 
 abbrev μ-choice : Measures 4 choice-kinds.ps ℕ
-μ-choice κs a = 2 * (sizeAt (a .0 .now) (a .1 .1 .0) + sizeAt (a .0 .now) (a .1 .1 .1 .0)) + 1
+μ-choice κs a = 3 * (sizeAt (a .0 .now) (a .1 .1 .0) + sizeAt (a .0 .now) (a .1 .1 .1 .0)) + 2
+
+abbrev μ-untried : Measures 4 untried-kinds.ps ℕ
+μ-untried κs a = 3 * (sizeAt (a .0 .now) (a .1 .1 .0) + sizeAt (a .0 .now) (a .1 .1 .1 .0)) + 1
 
 abbrev at-at : ℕ → In 4 at-kinds.ps
 at-at t = and 4 at-kinds.ps (is 4 at-kinds.ps μ-at t) at.Pre
@@ -85,6 +91,12 @@ choice-at t = and 4 choice-kinds.ps (is 4 choice-kinds.ps μ-choice t) choice.Pr
 abbrev choice-below : ℕ → In 4 choice-kinds.ps
 choice-below t = and 4 choice-kinds.ps (falls 4 choice-kinds.ps _<_ μ-choice t) choice.Pre
 
+abbrev untried-at : ℕ → In 4 untried-kinds.ps
+untried-at t = and 4 untried-kinds.ps (is 4 untried-kinds.ps μ-untried t) untried.Pre
+
+abbrev untried-below : ℕ → In 4 untried-kinds.ps
+untried-below t = and 4 untried-kinds.ps (falls 4 untried-kinds.ps _<_ μ-untried t) untried.Pre
+
 abbrev calls-at : ℕ → at-lts.Claims
 calls-at t = (below-reads.Asked, below-reads.Learnt, row-at-reads.Asked, row-at-reads.Learnt, shape-of-reads.Asked, shape-of-reads.Learnt, wide-reads.Asked, wide-reads.Learnt, fires-at-reads.Asked, fires-at-reads.Learnt, choice-below t, choice.Post, raise-reads.Asked, raise-reads.Learnt, at-below t, at.Post, end-reads.Asked, end-reads.Learnt, keep-reads.Asked, keep-reads.Learnt)
 
@@ -95,7 +107,10 @@ abbrev calls-children : ℕ → children-lts.Claims
 calls-children t = (row-at-reads.Asked, row-at-reads.Learnt, at-below t, at.Post, wide-reads.Asked, wide-reads.Learnt, both-below t, both.Post)
 
 abbrev calls-choice : ℕ → choice-lts.Claims
-calls-choice t = (case-of-reads.Asked, case-of-reads.Learnt, at-below t, at.Post, choice-below t, choice.Post, end-reads.Asked, end-reads.Learnt, children-below t, children.Post, both-below t, both.Post)
+calls-choice t = (case-of-reads.Asked, case-of-reads.Learnt, at-below t, at.Post, choice-below t, choice.Post, end-reads.Asked, end-reads.Learnt, untried-below t, untried.Post)
+
+abbrev calls-untried : ℕ → untried-lts.Claims
+calls-untried t = (children-below t, children.Post, both-below t, both.Post)
 
 -- ---- what is known
 -- at: the rows that were read, and what the one below the run says of the tree there
@@ -588,15 +603,14 @@ choice-end-requires-3 t c κs = let s = c .before .before .before .before .befor
 choice-enum-told-6 : (t : ℕ) → choice-lts.Need-enum-told-6 (calls-choice t) (choice-at t) choice.Post
 choice-enum-told-6 t c = search needs
 
-choice-children-requires : (t : ℕ) → choice-lts.Need-children-requires (calls-choice t) (choice-at t) choice.Post
-choice-children-requires t c κs = let s = c .before .before .before .before .before .before .before .before .before in let g = s .pre .1 .1 .0 in
-    (omega (arith, s .pre .0, root (g .atLeft) .rows, root (g .atRight) .rows, root (g .atRight) .least), (s .pre .1 .0, (record { tree = g .left; at = g .atLeft; fits = fits-left (g .fits) }, s .pre .1 .1 .1)))
+choice-untried-requires : (t : ℕ) → choice-lts.Need-untried-requires (calls-choice t) (choice-at t) choice.Post
+choice-untried-requires t c κs = let s = c .before .before .before .before .before .before .before .before .before in (omega (arith, s .pre .0), s .pre .1)
 
 choice-enum-told-7 : (t : ℕ) → choice-lts.Need-enum-told-7 (calls-choice t) (choice-at t) choice.Post
 choice-enum-told-7 t c = search needs
 
-choice-both-requires : (t : ℕ) → choice-lts.Need-both-requires (calls-choice t) (choice-at t) choice.Post
-choice-both-requires t c κs = let s = c .before .before .before .before .before .before .before .before .before in (omega (arith, s .pre .0), s .pre .1)
+choice-untried-requires-2 : (t : ℕ) → choice-lts.Need-untried-requires-2 (calls-choice t) (choice-at t) choice.Post
+choice-untried-requires-2 t c κs = let s = c .before .before .before .before .before .before .before .before .before in (omega (arith, s .pre .0), s .pre .1)
 
 choice-same-length-11 : (t : ℕ) → choice-lts.Need-same-length-11 (calls-choice t) (choice-at t) choice.Post
 choice-same-length-11 t c = search needs
@@ -638,7 +652,7 @@ choice-same-length-16 t c = search needs
 choice-returns-8 : (t : ℕ) → choice-lts.Need-returns-8 (calls-choice t) (choice-at t) choice.Post
 choice-returns-8 t c = let s = c .before .before .before .before .before .before .before .before .before .before .before .before .before .before in let u = s .args .text .now in
     λ x y a b. let h = told-first (s .args .tight) (s .args .rows .now) u x y (c .before .before .before .before .before .before .before .before .before .case-of .ensures x y a b) (c .before .before .before .before .before .before .before .enum-told6 .given .1) in
-    rw (choice-first (s .args .tight) _ _ _ _ (h .left) (ap (resolve u) (h .right .is)) (h .same)) (c .before .before .before .before .children .ensures x a)
+    rw (choice-first (s .args .tight) _ _ _ _ (h .left) (ap (resolve u) (h .right .is)) (h .same)) (c .before .before .before .before .untried .ensures x y a b)
 
 choice-same-length-17 : (t : ℕ) → choice-lts.Need-same-length-17 (calls-choice t) (choice-at t) choice.Post
 choice-same-length-17 t c = search needs
@@ -649,10 +663,35 @@ choice-same-length-18 t c = search needs
 choice-returns-9 : (t : ℕ) → choice-lts.Need-returns-9 (calls-choice t) (choice-at t) choice.Post
 choice-returns-9 t c = let s = c .before .before .before .before .before .before .before .before .before .before .before .before .before .before in
     λ x y a b. let h = told-plain (s .args .tight) (s .args .rows .now) (s .args .text .now) x y (c .before .before .before .before .before .before .before .before .before .case-of .ensures x y a b) (c .before .before .before .before .before .before .before .enum-told7 .given .1) in
-    rw (choice-plain (s .args .tight) _ _ h) (c .before .before .before .before .both .ensures Choice x y refl a b)
+    rw (choice-plain (s .args .tight) _ _ h) (c .before .before .before .before .untried2 .ensures x y a b)
 
-pub +at+both+children+choice-spec : {M : Type 1} → statement M
-+at+both+children+choice-spec = close μ-at μ-both μ-children μ-choice (λ t. at-lts.spec (calls-at t)
+untried-children-requires : (t : ℕ) → untried-lts.Need-children-requires (calls-untried t) (untried-at t) untried.Post
+untried-children-requires t c κs = let s = c .before .before .before .before .before .before .before in let g = s .pre .1 .1 .0 in
+    (omega (arith, s .pre .0, root (g .atLeft) .rows, root (g .atRight) .rows, root (g .atRight) .least), (s .pre .1 .0, (record { tree = g .left; at = g .atLeft; fits = fits-left (g .fits) }, s .pre .1 .1 .1)))
+
+untried-same-length : (t : ℕ) → untried-lts.Need-same-length (calls-untried t) (untried-at t) untried.Post
+untried-same-length t c = search needs
+
+untried-same-length-2 : (t : ℕ) → untried-lts.Need-same-length-2 (calls-untried t) (untried-at t) untried.Post
+untried-same-length-2 t c = search needs
+
+untried-returns : (t : ℕ) → untried-lts.Need-returns (calls-untried t) (untried-at t) untried.Post
+untried-returns t c = λ x y a b. rw (c .before .before .before .before .before .before .before .if1 .taken) (c .before .before .before .before .children .ensures x a)
+
+untried-both-requires : (t : ℕ) → untried-lts.Need-both-requires (calls-untried t) (untried-at t) untried.Post
+untried-both-requires t c κs = let s = c .before .before .before .before .before .before .before in (omega (arith, s .pre .0), s .pre .1)
+
+untried-same-length-3 : (t : ℕ) → untried-lts.Need-same-length-3 (calls-untried t) (untried-at t) untried.Post
+untried-same-length-3 t c = search needs
+
+untried-same-length-4 : (t : ℕ) → untried-lts.Need-same-length-4 (calls-untried t) (untried-at t) untried.Post
+untried-same-length-4 t c = search needs
+
+untried-returns-2 : (t : ℕ) → untried-lts.Need-returns-2 (calls-untried t) (untried-at t) untried.Post
+untried-returns-2 t c = λ x y a b. rw (c .before .before .before .before .before .before .before .if1 .left) (c .before .before .before .before .both .ensures Choice x y refl a b)
+
+pub +at+both+children+choice+untried-spec : {M : Type 1} → statement M
++at+both+children+choice+untried-spec = close μ-at μ-both μ-children μ-choice μ-untried (λ t. at-lts.spec (calls-at t)
     (at-at t)
     at.Post
     (at-below-requires t)
@@ -747,7 +786,7 @@ pub +at+both+children+choice-spec : {M : Type 1} → statement M
     (children-same-length-3 t)
     (children-same-length-4 t)
     (children-returns-4 t))
-    λ t. choice-lts.spec (calls-choice t)
+    (λ t. choice-lts.spec (calls-choice t)
     (choice-at t)
     choice.Post
     (choice-case-of-requires t)
@@ -786,9 +825,9 @@ pub +at+both+children+choice-spec : {M : Type 1} → statement M
     (choice-returns-5 t)
     (choice-end-requires-3 t)
     (choice-enum-told-6 t)
-    (choice-children-requires t)
+    (choice-untried-requires t)
     (choice-enum-told-7 t)
-    (choice-both-requires t)
+    (choice-untried-requires-2 t)
     (choice-same-length-11 t)
     (choice-same-length-12 t)
     (choice-returns-6 t)
@@ -800,4 +839,15 @@ pub +at+both+children+choice-spec : {M : Type 1} → statement M
     (choice-returns-8 t)
     (choice-same-length-17 t)
     (choice-same-length-18 t)
-    (choice-returns-9 t)
+    (choice-returns-9 t))
+    λ t. untried-lts.spec (calls-untried t)
+    (untried-at t)
+    untried.Post
+    (untried-children-requires t)
+    (untried-same-length t)
+    (untried-same-length-2 t)
+    (untried-returns t)
+    (untried-both-requires t)
+    (untried-same-length-3 t)
+    (untried-same-length-4 t)
+    (untried-returns-2 t)
