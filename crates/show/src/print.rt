@@ -309,56 +309,50 @@ fn span(literals: &[u8], offset: usize, length: usize) {
 }
 
 fn type_name(ty: u32) {
-    match ty {
-        0 => text(b"Normal"),
-        1 => text(b"Silent"),
-        2 => text(b"Atomic"),
-        3 => text(b"CompoundAtomic"),
-        _ => text(b"NonAtomic"),
-    }
+    word(b"Normal Silent Atomic CompoundAtomic NonAtomic", ty);
 }
 
 fn kind_name(k: u32) {
-    if k < 6 {
-        leaf_name(k);
-    } else if k < 13 {
-        node_name(k);
-    } else {
-        last_name(k);
-    }
+    word(
+        b"Str Insens Range Ident PeekSlice PeekSlice PosPred NegPred Seq Choice Opt Rep RepOnce RepExact RepMin RepMax RepMinMax Skip Push RestoreOnErr",
+        k,
+    );
 }
 
-fn leaf_name(k: u32) {
-    match k {
-        0 => text(b"Str"),
-        1 => text(b"Insens"),
-        2 => text(b"Range"),
-        3 => text(b"Ident"),
-        4 => text(b"PeekSlice from"),
-        _ => text(b"PeekSlice"),
-    }
+// The word at place k of a list with spaces between.
+fn word(list: &[u8], k: u32) {
+    let from = start(list, k);
+    let to = end(list, from);
+    text(&list[from..to]);
 }
 
-fn node_name(k: u32) {
-    match k {
-        6 => text(b"PosPred"),
-        7 => text(b"NegPred"),
-        8 => text(b"Seq"),
-        9 => text(b"Choice"),
-        10 => text(b"Opt"),
-        11 => text(b"Rep"),
-        _ => text(b"RepOnce"),
+fn start(list: &[u8], k: u32) -> usize
+    ensures { λ r. ⌜ r ≤ length (now (list .entry)) ⌝ }
+{
+    let mut left = k;
+    let mut at = 0;
+    while at < list.len() {
+        if left == 0 {
+            return at;
+        }
+        if list[at] == b' ' {
+            left -= 1;
+        }
+        at += 1;
     }
+    at
 }
 
-fn last_name(k: u32) {
-    match k {
-        13 => text(b"RepExact"),
-        14 => text(b"RepMin"),
-        15 => text(b"RepMax"),
-        16 => text(b"RepMinMax"),
-        17 => text(b"Skip"),
-        18 => text(b"Push"),
-        _ => text(b"RestoreOnErr"),
+fn end(list: &[u8], from: usize) -> usize
+    requires { ⌜ from ≤ length (now list) ⌝ }
+    ensures { λ r. ⌜ (from ≤ r) × (r ≤ length (now (list .entry))) ⌝ }
+{
+    let mut at = from;
+    while at < list.len() {
+        if list[at] == b' ' {
+            return at;
+        }
+        at += 1;
     }
+    at
 }
