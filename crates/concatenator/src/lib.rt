@@ -1,13 +1,15 @@
 // Concatenate: a Seq of two Str, or of two Insens, is one; bottom-up, in Atomic rules alone.
 ghost use mathlib.Core.Path.{_≡_};
+ghost use mathlib.Core.Bool.{true, false};
 ghost use Prim.Native.Nat.{_-_};
 ghost use lib.ListN.{length};
+ghost use Rattle.grammar.specs.Basic.{Bytes};
 ghost use Rattle.grammar.specs.Tree.{Expr};
 ghost use Rattle.grammar.specs.Rows.{Span};
 ghost use Rattle.grammar.specs.Text.{resolve};
 ghost use Rattle.grammar.specs.Table.{Atomic};
-ghost use Rattle.grammar.specs.Steps.{concatenate};
-ghost use Rattle.rows.specs.Rows.{kindAt, Inside, At};
+ghost use Rattle.grammar.specs.Steps.{orSame, concat?, concatenate};
+ghost use Rattle.rows.specs.Rows.{kindAt, Inside, At, Stands};
 ghost use Rattle.writing.specs.Writes.{Areas};
 ghost use Rattle.writing.specs.Keeps.{KeptAnswer, Ready};
 ghost use Rattle.concatenator.specs.Joins.{joinsOf, Order, EndAnswer};
@@ -71,6 +73,54 @@ fn finish(out: &mut [u32], p: Place, q: Place, s: Place, kind: u32) -> Wrote
             text,
         })
     }
+}
+
+// Whether the Seq of row i is one literal.
+fn fires(rows: &[u32], i: usize) -> bool
+    requires { ⌜ Stands (now rows) i ⌝ }
+    requires { ⌜ kindAt (now rows) i ≡ 8 ⌝ }
+    ensures { λ b. ⌜ (b ≡ false → (t : Bytes) (x : Expr Span) → At (now (rows .entry)) i x → orSame concat? (resolve t x) ≡ resolve t x) ⌝ }
+{
+    let right = i - 1;
+    let left = right - rows::wide(rows[right * 4 + 3]);
+    joins(8, rows[left * 4], rows[right * 4])
+}
+
+// Whether some Seq of the subtree of row `root` is.
+fn any_fires(rows: &[u32], root: usize) -> bool
+    requires { ⌜ Stands (now rows) root ⌝ }
+    ensures { λ b. ⌜ (b ≡ false → (t : Bytes) (r : Expr Span) → At (now (rows .entry)) root r → concatenate Atomic (resolve t r) ≡ resolve t r) ⌝ }
+{
+    let Lookup::Row {
+        kind: _,
+        x: _,
+        y: _,
+        size,
+    } = rows::row_at(rows, root)
+    else {
+        return true;
+    };
+    let mut i = root + 1 - rows::wide(size);
+    while i <= root {
+        if rows[i * 4] == 8 {
+            if fires(rows, i) {
+                return true;
+            }
+        }
+        i += 1;
+    }
+    false
+}
+
+// Whether a rule of a type, with the subtree of row `root`, is changed.
+fn changes(rows: &[u32], root: usize, rule: u32) -> bool
+    requires { ⌜ Stands (now rows) root ⌝ }
+    ensures { λ b. ⌜ (b ≡ true → rule ≡ 2) × (b ≡ false → (t : Bytes) (r : Expr Span) → At (now (rows .entry)) root r → concatenate rule (resolve t r) ≡ resolve t r) ⌝ }
+{
+    if rule == 2 {
+        return any_fires(rows, root);
+    }
+    false
 }
 
 // Writes the subtree of row `root`, which fits, at p: its children first, then its own row or the literal that they make.
@@ -138,7 +188,7 @@ pub fn concatenate(
     requires { ⌜ Areas (now out) (now lits) ⌝ }
     ensures { λ a. ⌜ ((r : Expr Span) → At (now (rows .entry)) root r → KeptAnswer a p (concatenate rule (resolve (now (text .entry)) r)) (now (out .entry)) (now (out .exit)) (now (lits .entry)) (now (lits .exit))) ⌝ }
 {
-    if rule == 2 {
+    if changes(rows, root, rule) {
         bottom_up(rows, text, root, out, lits, p)
     } else {
         writing::keep(rows, text, root, out, lits, p)

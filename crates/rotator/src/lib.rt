@@ -1,11 +1,14 @@
 // Rotate: chains of Seq, and of Choice, nest to the right.
 ghost use mathlib.Core.Path.{_≡_};
+ghost use mathlib.Core.Bool.{false};
+ghost use Prim.Native.Nat.{_/_};
 ghost use lib.ListN.{length};
+ghost use Rattle.grammar.specs.Basic.{Bytes};
 ghost use Rattle.grammar.specs.Tree.{Expr};
 ghost use Rattle.grammar.specs.Rows.{Span};
 ghost use Rattle.grammar.specs.Text.{resolve};
-ghost use Rattle.grammar.specs.Steps.{rotate};
-ghost use Rattle.rows.specs.Rows.{Inside, At};
+ghost use Rattle.grammar.specs.Steps.{rotate, rotateAt};
+ghost use Rattle.rows.specs.Rows.{kindAt, Inside, At, Stands};
 ghost use Rattle.writing.specs.Writes.{Areas};
 ghost use Rattle.writing.specs.Keeps.{KeptAnswer, Ready};
 ghost use Rattle.rotator.specs.Members.{membersOf, chainAt, AllAnswer};
@@ -79,7 +82,46 @@ fn walk(
     }
 }
 
-// Writes the rotated subtree of row `root`, which fits, at p, its literals packed.
+// Whether the left side of row i, a Seq or a Choice, is one as well.
+fn fires(rows: &[u32], i: usize) -> bool
+    requires { ⌜ Stands (now rows) i ⌝ }
+    requires { ⌜ kindAt (now rows) i / 2 ≡ 4 ⌝ }
+    ensures { λ b. ⌜ (b ≡ false → (t : Bytes) (x : Expr Span) → At (now (rows .entry)) i x → rotateAt (resolve t x) ≡ resolve t x) ⌝ }
+{
+    let right = i - 1;
+    let left = right - rows::wide(rows[right * 4 + 3]);
+    rows[left * 4] == rows[i * 4]
+}
+
+// Whether some such row of the subtree of row `root` does.
+fn any_fires(rows: &[u32], root: usize) -> bool
+    requires { ⌜ Stands (now rows) root ⌝ }
+    ensures { λ b. ⌜ (b ≡ false → (t : Bytes) (r : Expr Span) → At (now (rows .entry)) root r → rotate (resolve t r) ≡ resolve t r) ⌝ }
+{
+    let Lookup::Row {
+        kind: _,
+        x: _,
+        y: _,
+        size,
+    } = rows::row_at(rows, root)
+    else {
+        return true;
+    };
+    let mut i = root + 1 - rows::wide(size);
+    while i <= root {
+        // kind 8 or 9
+        if rows[i * 4] / 2 == 4 {
+            if fires(rows, i) {
+                return true;
+            }
+        }
+        i += 1;
+    }
+    false
+}
+
+// Writes the rotated subtree of row `root`, which fits, at p, its literals packed: most nest to the right already, and a copy is cheaper
+// than a walk.
 pub fn rotate(
     rows: &[u32],
     text: &[u8],
@@ -93,6 +135,9 @@ pub fn rotate(
     requires { ⌜ Areas (now out) (now lits) ⌝ }
     ensures { λ a. ⌜ ((r : Expr Span) → At (now (rows .entry)) root r → KeptAnswer a p (rotate (resolve (now (text .entry)) r)) (now (out .entry)) (now (out .exit)) (now (lits .entry)) (now (lits .exit))) ⌝ }
 {
+    if !any_fires(rows, root) {
+        return writing::keep(rows, text, root, out, lits, p);
+    }
     // in no chain
     walk(rows, text, root, 0, out, lits, p)
 }
