@@ -8,3 +8,4 @@ pub mod Rotation
 pub mod Tables
 pub mod Spelling
 pub mod Skipping
+pub mod Quiets

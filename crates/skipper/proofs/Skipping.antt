@@ -54,13 +54,13 @@ abbrev pub skipped : Table Bytes → E → E
 skipped t e = topDown (orSame (skip? t)) e
 
 module _ (t : Table Bytes) (e : E) where
-  skip-stays : skip? t e ≡ none → skipped t e ≡ children (skipped t) e
+  pub skip-stays : skip? t e ≡ none → skipped t e ≡ children (skipped t) e
   skip-stays h = skip-step t e ∙ ap (λ (o : Option E). children (skipped t) (orElse o e)) h
 
   skip-goes : {ss : List Bytes} → skip? t e ≡ some (skip ss) → skipped t e ≡ skip ss
   skip-goes h = skip-step t e ∙ ap (λ (o : Option E). children (skipped t) (orElse o e)) h
 
-  skip-none : loopOver e ≡ none → skip? t e ≡ none
+  pub skip-none : loopOver e ≡ none → skip? t e ≡ none
   skip-none h = skip-of t e ∙ ap (skipOf t) h
 
   pub loop-skips : {x : E} {ss : List Bytes} → loopOver e ≡ some x → skipList t x ≡ strings ss → skipped t e ≡ skip ss

@@ -1,6 +1,7 @@
 // Skip lists. A rule's memory is word 1 of its mark: 0 not read, 1 being read, 2 no list, 3 a list. The same numbers are a reading's answer,
 // where 1 says that it came to a rule that is being read.
 ghost use mathlib.Core.Path.{_≡_};
+ghost use mathlib.Core.Bool.{false};
 ghost use mathlib.Core.List.{List};
 ghost use Prim.Native.Nat.{ℕ, _+_, _-_, _*_, _/_, _^_, _≤_, _<_};
 ghost use mathlib.Core.Option.{some};
@@ -836,6 +837,68 @@ pub fn skip_tree(
     }
 }
 
+// Whether some row of the subtree of row `root` is a Rep of a Seq, as each loop is that step 2 rewrites.
+pub fn may_skip(rows: &[u32], root: usize) -> bool
+    requires { ⌜ Stands (now rows) root ⌝ }
+    ensures { λ b. ⌜ (b ≡ false → (t : Table Bytes) (s : Bytes) (r : Expr Span) → At (now (rows .entry)) root r → topDown (orSame (skip? t)) (resolve s r) ≡ resolve s r) ⌝ }
+{
+    let Lookup::Row {
+        kind: _,
+        x: _,
+        y: _,
+        size,
+    } = rows::row_at(rows, root)
+    else {
+        return true;
+    };
+    let mut i = root + 1 - wide(size);
+    while i < root {
+        if rows[i * 4] == 8 {
+            if rows[(i + 1) * 4] == 11 {
+                return true;
+            }
+        }
+        i += 1;
+    }
+    false
+}
+
+// Step 2 of a subtree: most have no Rep of a Seq, and a copy is cheaper than a walk.
+pub fn skip_all(
+    given_rules: &[u32],
+    given_rows: &[u32],
+    given_text: &[u8],
+    marks: &[u32],
+    rows: &[u32],
+    text: &[u8],
+    root: usize,
+    out: &mut [u32],
+    lits: &mut [u8],
+    p: Place,
+) -> Wrote
+    requires { ⌜ Given (now «given_rules») (now «given_rows») (now «given_text») (now marks) ⌝ }
+    requires { ⌜ Inside (now rows) (length (now text)) ⌝ }
+    requires { ⌜ Settling (now «given_rules») (now «given_rows») (now «given_text») (now marks) (now rows) (now text) root ⌝ }
+    requires { ⌜ Room p (now out) (now lits) ⌝ }
+    ensures { λ a. ⌜ ((t : Table Span) (r : Expr Span) → Lent (now («given_rules» .entry)) (now («given_rows» .entry)) t → At (now (rows .entry)) root r → Settles (resolveTable (now («given_text» .entry)) t) (now (marks .entry)) (resolve (now (text .entry)) r) → Answer a p (topDown (orSame (skip? (resolveTable (now («given_text» .entry)) t))) (resolve (now (text .entry)) r)) (now (out .entry)) (now (out .exit)) (now (lits .entry)) (now (lits .exit))) ⌝ }
+{
+    if !may_skip(rows, root) {
+        return writing::copy(rows, text, root, out, lits, p);
+    }
+    skip_tree(
+        given_rules,
+        given_rows,
+        given_text,
+        marks,
+        rows,
+        text,
+        root,
+        out,
+        lits,
+        p,
+    )
+}
+
 // Step 2 of a rule's expression, as it stands after step 1: "Atomic only".
 pub fn skip(
     given_rules: &[u32],
@@ -858,7 +921,7 @@ pub fn skip(
     ensures { λ a. ⌜ ((t : Table Span) (r : Expr Span) → Lent (now («given_rules» .entry)) (now («given_rows» .entry)) t → At (now (rows .entry)) root r → («rule_type» ≡ 2 → Settles (resolveTable (now («given_text» .entry)) t) (now (marks .entry)) (resolve (now (text .entry)) r)) → Answer a p (skipTo (resolveTable (now («given_text» .entry)) t) «rule_type» (resolve (now (text .entry)) r)) (now (out .entry)) (now (out .exit)) (now (lits .entry)) (now (lits .exit))) ⌝ }
 {
     if rule_type == 2 {
-        skip_tree(
+        skip_all(
             given_rules,
             given_rows,
             given_text,
