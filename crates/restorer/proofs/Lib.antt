@@ -6,4 +6,5 @@ pub mod Visits
 pub mod Ends
 pub mod Showing
 pub mod Restores
+pub mod Climbs
 pub mod Stills

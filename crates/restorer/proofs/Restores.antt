@@ -48,7 +48,7 @@ node-put {a} {s} {c} p q h n b o o′ d r e f = record { row = subst (λ (m : �
 -- ---- a node over what was written
 
 module _ {q p : Place} {b : Bool} {t : Table Bytes} {e : E} {o o₁ l l₁ : List ℕ} (w : Shown q p b t e o o₁ l l₁) where
-  node-un : (a : Restored) (u : Un) (h : Head) (o₂ : List ℕ) → h ≡ unHead u → NodeAnswer a p q h b o₁ o₂ → RestoredAnswer a p t (un u e) o o₂ l l₁
+  pub node-un : (a : Restored) (u : Un) (h : Head) (o₂ : List ℕ) → h ≡ unHead u → NodeAnswer a p q h b o₁ o₂ → RestoredAnswer a p t (un u e) o o₂ l l₁
   node-un (To s c) u h o₂ d n =
       record {
         written = un-tree (w .written) (Done s) u h (q .rows - p .rows + 1) o₂ d (omega (arith, w .written .rows)) (n .row);

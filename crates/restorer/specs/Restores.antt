@@ -1,19 +1,21 @@
 -- What is written of a restored tree, and what shows of it. Assumes nothing.
 use mathlib.Core.Path.{_≡_}
 use mathlib.Core.Bool.{Bool, true, false, _||_, cond}
-use mathlib.Core.List.{List}
+use mathlib.Core.List.{List, [], _∷_}
 use Prim.Native.Nat.{ℕ, _+_, _-_, _/_, _^_, _≤_, _<_}
 use lib.ListN.{length}
 use lib.Dec.{eqb}
 use Rattle.grammar.specs.Basic.{Bytes, member}
-use Rattle.grammar.specs.Tree.{Head, Ident, E, lit}
+use Rattle.grammar.specs.Tree.{Head, Un, Ident, Expr, E, lit, un, unHead}
+use Rattle.grammar.specs.Rows.{Span}
 use Rattle.grammar.specs.Table.{Table}
 use Rattle.grammar.specs.Stack.{stackNames, changes}
 use Rattle.grammar.specs.Steps.{guarded}
-use Rattle.rows.specs.Rows.{Inside, kindAt, xAt, yAt}
+use Rattle.rows.specs.Rows.{Inside, At as Stands, kindAt, xAt, yAt}
 use Rattle.writing.specs.Writes.{RowPut, Fits, Written}
 use Rattle.writing.specs.declared.Place.{Place}
 use Rattle.names.specs.Names.{Hashed, Finds}
+use Rattle.chains.specs.Runs.{ups}
 use Rattle.names.specs.declared.Found.{Found}
 use Rattle.names.specs.declared.Found.the-variants.{At, Nothing}
 use Rattle.restorer.specs.Search.{stateOf}
@@ -27,6 +29,11 @@ isGuard k = eqb k 9 || (eqb k 10 || eqb k 11)
 unfoldable pub guardedIf : Table Bytes → Bool → E → E
 unfolding guarded
 guardedIf t g e = cond g (guarded t e) e
+
+-- the nodes us over e, the outermost first, each over what is below it, guarded where the node guards
+abbrev pub climbed : Table Bytes → List Un → E → E
+climbed t [] e = e
+climbed t (u ∷ us) e = un u (guardedIf t (isGuard (unHead u .0)) (climbed t us e))
 
 -- what shows through a row of kind k, where b shows below it: all of a Push, nothing of a RestoreOnErr
 abbrev pub showsThrough : ℕ → Bool → Bool
@@ -77,3 +84,18 @@ pub record NodePut (s p q : Place) (c : Bool) (h : Head) (b : Bool) (o o′ : Li
 abbrev pub NodeAnswer : Restored → Place → Place → Head → Bool → (o o′ : List ℕ) → Type 0
 NodeAnswer (To s c) p q h b o o′ = NodePut s p q c h b o o′
 NodeAnswer Full p q h b o o′ = q .rows < length o / 4 → ⊥
+
+-- the place that is told is over p too
+abbrev pub OverAnswer : Restored → Place → List ℕ → Type 0
+OverAnswer (To s b) p o = Over p s o
+OverAnswer Full p o = Unit {0}
+
+-- whatever tree stands from p to q, of which b shows, becomes f of it
+abbrev pub Becomes : Restored → (q p : Place) → Bool → (Table Bytes → E → E) → (o₁ o₂ : List ℕ) → Type 0
+Becomes a q p b f o₁ o₂ = (t : Table Bytes) (e : E) (o l l₁ : List ℕ) → Shown q p b t e o o₁ l l₁ → RestoredAnswer a p t (f t e) o o₂ l l₁
+
+-- the run of the tree at row `root` of the words w stands over row `base`
+pub record Climbable (w : List ℕ) (base root : ℕ) : Type 0 where
+  pub tree : Expr Span
+  pub at : Stands w root tree
+  pub run : base + length (ups tree) ≡ root

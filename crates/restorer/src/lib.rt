@@ -19,7 +19,8 @@ ghost use Rattle.names.specs.Names.{marked, Hashed};
 ghost use Rattle.restorer.specs.Search.{Right, Answers, Looks, turnedTo, withTurned, Rested, RuleSettled};
 ghost use Rattle.restorer.specs.Lends.{Lent, Marked, Given, Steady, Ran, TreeRows, Settles};
 ghost use Rattle.restorer.specs.Walks.{stepFrom, GoesOn, Visited};
-ghost use Rattle.restorer.specs.Restores.{isGuard, showsThrough, guardedIf, Sure, Known, RowIs, RestoredAnswer, Over, NodeAnswer};
+ghost use Rattle.restorer.specs.Restores.{isGuard, showsThrough, guardedIf, Sure, Known, RowIs, climbed, RestoredAnswer, Over, NodeAnswer, OverAnswer, Becomes, Climbable};
+ghost use Rattle.chains.specs.Runs.{ups};
 use names::Found;
 use rows::Lookup;
 use rows::Shape;
@@ -322,26 +323,12 @@ fn plain(
     Restored::To(q, false)
 }
 
-// Writes the subtree of row `root` at p, restored, and if `guard` under a RestoreOnErr where the stack can change through it.
-pub fn child(
-    rules: &[u32],
-    marks: &[u32],
-    rows: &[u32],
-    text: &[u8],
-    root: usize,
-    guard: bool,
-    out: &mut [u32],
-    lits: &mut [u8],
-    p: Place,
-) -> Restored
-    requires { ⌜ Known (now rules) (now marks) (now rows) (now text) ⌝ }
-    requires { ⌜ Stands (now rows) root ⌝ }
-    requires { ⌜ Room p (now out) (now lits) ⌝ }
-    ensures { λ a. ⌜ ((t : Table Bytes) (r : Expr Span) → Sure t (now (rules .entry)) (now (text .entry)) (now (marks .entry)) → At (now (rows .entry)) root r → RestoredAnswer a p t (guardedIf t guard (steps.restore t (resolve (now (text .entry)) r))) (now (out .entry)) (now (out .exit)) (now (lits .entry)) (now (lits .exit))) ⌝ }
+// Puts a RestoreOnErr over what stands from p to q, of which b shows, where `guard` and b say so.
+fn guarded(out: &mut [u32], p: Place, q: Place, b: bool, guard: bool) -> Restored
+    requires { ⌜ Over p q (now out) ⌝ }
+    ensures { λ a. ⌜ OverAnswer a p (now (out .exit)) ⌝ }
+    ensures { λ a. ⌜ Becomes a q p b (λ t e. guardedIf t guard e) (now (out .entry)) (now (out .exit)) ⌝ }
 {
-    let Restored::To(q, b) = put(rules, marks, rows, text, root, out, lits, p) else {
-        return Restored::Full;
-    };
     if guard {
         if b {
             return node(out, p, q, 19, 0, 0, b);
@@ -350,31 +337,54 @@ pub fn child(
     Restored::To(q, b)
 }
 
-// Writes the subtree of row `root`, which has one child, at p.
-pub fn one(
-    rules: &[u32],
-    marks: &[u32],
-    rows: &[u32],
-    text: &[u8],
-    root: usize,
-    kind: u32,
-    x: u32,
-    y: u32,
-    out: &mut [u32],
-    lits: &mut [u8],
-    p: Place,
-) -> Restored
-    requires { ⌜ Known (now rules) (now marks) (now rows) (now text) ⌝ }
-    requires { ⌜ Stands (now rows) root ⌝ }
-    requires { ⌜ Room p (now out) (now lits) ⌝ }
-    requires { ⌜ RowIs (now rows) root kind x y × (shapeOf kind ≡ One) ⌝ }
-    ensures { λ a. ⌜ ((t : Table Bytes) (r : Expr Span) → Sure t (now (rules .entry)) (now (text .entry)) (now (marks .entry)) → At (now (rows .entry)) root r → RestoredAnswer a p t (steps.restore t (resolve (now (text .entry)) r)) (now (out .entry)) (now (out .exit)) (now (lits .entry)) (now (lits .exit))) ⌝ }
+// Writes a row with one child over what stands from p to q, of which b shows: that child, guarded where the row guards.
+fn over(out: &mut [u32], p: Place, q: Place, kind: u32, x: u32, y: u32, b: bool) -> Restored
+    requires { ⌜ Over p q (now out) ⌝ }
+    ensures { λ a. ⌜ OverAnswer a p (now (out .exit)) ⌝ }
+    ensures { λ a. ⌜ ((u : tree.Un) → (kind, x, y) ≡ tree.unHead u → Becomes a q p b (λ t e. tree.un u (guardedIf t (isGuard (tree.unHead u .0)) e)) (now (out .entry)) (now (out .exit))) ⌝ }
 {
     let guard = guards(kind);
-    let Restored::To(q, b) = child(rules, marks, rows, text, root - 1, guard, out, lits, p) else {
+    let Restored::To(s, c) = guarded(out, p, q, b, guard) else {
         return Restored::Full;
     };
-    node(out, p, q, kind, x, y, b)
+    node(out, p, s, kind, x, y, c)
+}
+
+// Writes the rows after `base` up to `root`, which have one child each, over what stands from p to q, of which b shows.
+fn climb(
+    rows: &[u32],
+    base: usize,
+    root: usize,
+    out: &mut [u32],
+    p: Place,
+    q: Place,
+    b: bool,
+) -> Restored
+    requires { ⌜ Climbable (now rows) base root ⌝ }
+    requires { ⌜ Over p q (now out) ⌝ }
+    ensures { λ a. ⌜ ((r : Expr Span) → At (now (rows .entry)) root r → Becomes a q p b (λ t e. climbed t (ups r) e) (now (out .entry)) (now (out .exit))) ⌝ }
+{
+    let mut s = q;
+    let mut shown = b;
+    let mut i = base;
+    while i < root {
+        i += 1;
+        let Lookup::Row {
+            kind,
+            x,
+            y,
+            size: _,
+        } = rows::row_at(rows, i)
+        else {
+            return Restored::Full;
+        };
+        let Restored::To(z, c) = over(out, p, s, kind, x, y, shown) else {
+            return Restored::Full;
+        };
+        s = z;
+        shown = c;
+    }
+    Restored::To(s, shown)
 }
 
 // Writes the subtree of row `root`, which has two children, at p.
@@ -406,7 +416,7 @@ pub fn two(
         return Restored::Full;
     };
     let guard = guards(kind);
-    let Restored::To(q, b) = child(
+    let Restored::To(q, b) = put(
         rules,
         marks,
         rows,
@@ -419,15 +429,15 @@ pub fn two(
     ) else {
         return Restored::Full;
     };
-    let Restored::To(s, c) = child(rules, marks, rows, text, right, guard, out, lits, q) else {
+    let Restored::To(s, c) = put(rules, marks, rows, text, right, guard, out, lits, q) else {
         return Restored::Full;
     };
     let shown = either(b, c);
     node(out, p, s, kind, 0, 0, shown)
 }
 
-// Writes the subtree of row `root` at p, restored, and tells what shows of it.
-pub fn put(
+// Writes the subtree of row `root`, which has not one child, at p, restored, and tells what shows of it.
+pub fn bottom(
     rules: &[u32],
     marks: &[u32],
     rows: &[u32],
@@ -440,6 +450,7 @@ pub fn put(
     requires { ⌜ Known (now rules) (now marks) (now rows) (now text) ⌝ }
     requires { ⌜ Stands (now rows) root ⌝ }
     requires { ⌜ Room p (now out) (now lits) ⌝ }
+    requires { ⌜ (shapeOf (kindAt (now rows) root) ≡ One → ⊥) ⌝ }
     ensures { λ a. ⌜ ((t : Table Bytes) (r : Expr Span) → Sure t (now (rules .entry)) (now (text .entry)) (now (marks .entry)) → At (now (rows .entry)) root r → RestoredAnswer a p t (steps.restore t (resolve (now (text .entry)) r)) (now (out .entry)) (now (out .exit)) (now (lits .entry)) (now (lits .exit))) ⌝ }
 {
     let Lookup::Row {
@@ -454,10 +465,38 @@ pub fn put(
     match rows::shape_of(kind) {
         Shape::Lit => literal(rules, marks, text, kind, x, y, out, lits, p),
         Shape::Num => plain(rows, text, root, out, lits, p),
-        Shape::One => one(rules, marks, rows, text, root, kind, x, y, out, lits, p),
+        Shape::One => Restored::Full,
         Shape::Two => two(rules, marks, rows, text, root, kind, out, lits, p),
         Shape::Skips => plain(rows, text, root, out, lits, p),
     }
+}
+
+// Writes the subtree of row `root` at p, restored, and if `guard` under a RestoreOnErr where the stack can change through it.
+pub fn put(
+    rules: &[u32],
+    marks: &[u32],
+    rows: &[u32],
+    text: &[u8],
+    root: usize,
+    guard: bool,
+    out: &mut [u32],
+    lits: &mut [u8],
+    p: Place,
+) -> Restored
+    requires { ⌜ Known (now rules) (now marks) (now rows) (now text) ⌝ }
+    requires { ⌜ Stands (now rows) root ⌝ }
+    requires { ⌜ Room p (now out) (now lits) ⌝ }
+    ensures { λ a. ⌜ ((t : Table Bytes) (r : Expr Span) → Sure t (now (rules .entry)) (now (text .entry)) (now (marks .entry)) → At (now (rows .entry)) root r → RestoredAnswer a p t (guardedIf t guard (steps.restore t (resolve (now (text .entry)) r))) (now (out .entry)) (now (out .exit)) (now (lits .entry)) (now (lits .exit))) ⌝ }
+{
+    // no call for each row of a run: a host's stack is short
+    let base = chains::below(rows, root);
+    let Restored::To(q, b) = bottom(rules, marks, rows, text, base, out, lits, p) else {
+        return Restored::Full;
+    };
+    let Restored::To(s, c) = climb(rows, base, root, out, p, q, b) else {
+        return Restored::Full;
+    };
+    guarded(out, p, s, c, guard)
 }
 
 // Whether the stack can change through the name of row i, which is an Ident.
@@ -525,7 +564,7 @@ pub fn restore(
     if !alters(rules, marks, rows, text, root) {
         return writing::copy(rows, text, root, out, lits, p);
     }
-    let Restored::To(q, _) = put(rules, marks, rows, text, root, out, lits, p) else {
+    let Restored::To(q, _) = put(rules, marks, rows, text, root, false, out, lits, p) else {
         return Wrote::Full;
     };
     Wrote::Done(q)

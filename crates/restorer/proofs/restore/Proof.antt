@@ -2,6 +2,7 @@
 use Rattle.grammar.specs.Table.{resolveTable}
 use Rattle.restorer.proofs.Showing.{sure, known}
 use Rattle.restorer.proofs.Restores.{no-room, wrote-done}
+use Rattle.restorer.proofs.Climbs.{unguarded}
 use Rattle.restorer.proofs.Stills.{answer-still}
 use borrow.Author.Tests.{not-true}
 use borrow.Author.Needs.{needs}
@@ -39,7 +40,7 @@ same-length-4 : tie.Need-same-length-4
 same-length-4 c = search needs
 
 returns-2 : tie.Need-returns-2
-returns-2 c = λ u r l a. no-room _ _ _ _ _ _ _ (c .enum-told .given .1) (c .before .before .before .before .before .before .put .ensures (resolveTable (c .before .before .before .before .before .before .before .before .before .before .before .before .before .before .before .before .before .args .text .now) u) r (sure (c .before .before .before .before .before .before .before .before .before .before .before .before .before .before .before .before .before .args .text .now) u l (c .before .before .before .before .before .before .before .before .before .before .before .before .before .before .before .before .before .args .marks .now) (c .before .before .before .before .before .before .before .before .before .before .before .before .before .before .before .before .before .pre .1 .0 .settled u l)) a)
+returns-2 c = λ u r l a. no-room _ _ _ _ _ _ _ (c .enum-told .given .1) (unguarded (c .before .before .before .before .before .before .put .result) _ _ _ _ _ _ _ (c .before .before .before .before .before .before .put .ensures (resolveTable (c .before .before .before .before .before .before .before .before .before .before .before .before .before .before .before .before .before .args .text .now) u) r (sure (c .before .before .before .before .before .before .before .before .before .before .before .before .before .before .before .before .before .args .text .now) u l (c .before .before .before .before .before .before .before .before .before .before .before .before .before .before .before .before .before .args .marks .now) (c .before .before .before .before .before .before .before .before .before .before .before .before .before .before .before .before .before .pre .1 .0 .settled u l)) a))
 
 same-length-5 : tie.Need-same-length-5
 same-length-5 c = search needs
@@ -48,7 +49,7 @@ same-length-6 : tie.Need-same-length-6
 same-length-6 c = search needs
 
 returns-3 : tie.Need-returns-3
-returns-3 c = λ u r l a. wrote-done _ _ _ _ _ _ _ (c .before .q .given .1) (c .before .before .before .before .before .before .before .put .ensures (resolveTable (c .before .before .before .before .before .before .before .before .before .before .before .before .before .before .before .before .before .before .args .text .now) u) r (sure (c .before .before .before .before .before .before .before .before .before .before .before .before .before .before .before .before .before .before .args .text .now) u l (c .before .before .before .before .before .before .before .before .before .before .before .before .before .before .before .before .before .before .args .marks .now) (c .before .before .before .before .before .before .before .before .before .before .before .before .before .before .before .before .before .before .pre .1 .0 .settled u l)) a)
+returns-3 c = λ u r l a. wrote-done _ _ _ _ _ _ _ (c .before .q .given .1) (unguarded (c .before .before .before .before .before .before .before .put .result) _ _ _ _ _ _ _ (c .before .before .before .before .before .before .before .put .ensures (resolveTable (c .before .before .before .before .before .before .before .before .before .before .before .before .before .before .before .before .before .before .args .text .now) u) r (sure (c .before .before .before .before .before .before .before .before .before .before .before .before .before .before .before .before .before .before .args .text .now) u l (c .before .before .before .before .before .before .before .before .before .before .before .before .before .before .before .before .before .before .args .marks .now) (c .before .before .before .before .before .before .before .before .before .before .before .before .before .before .before .before .before .before .pre .1 .0 .settled u l)) a))
 
 pub restore-spec : {M : Type 1} → statement M
 restore-spec =
