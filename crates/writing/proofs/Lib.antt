@@ -3,4 +3,5 @@ pub mod Runs
 pub mod Puts
 pub mod Trees
 pub mod Copies
+pub mod Pendings
 pub mod Keeps

@@ -1,7 +1,7 @@
 // Writing rows and text at a place of two lent areas: a row, a literal, the packed copy of a subtree.
 ghost use mathlib.Core.Path.{_≡_};
-ghost use mathlib.Core.List.{List, map};
-ghost use Prim.Native.Nat.{ℕ, _+_, _*_, _/_, _≤_, _<_};
+ghost use mathlib.Core.List.{List, map, _++_};
+ghost use Prim.Native.Nat.{ℕ, _+_, _*_, _/_, _^_, _≤_, _<_};
 ghost use lib.ListN.{length};
 ghost use Rattle.grammar.specs.Tree.{Expr};
 ghost use Rattle.grammar.specs.Rows.{Span, row};
@@ -9,7 +9,7 @@ ghost use Rattle.grammar.specs.Text.{bytesAt, resolve};
 ghost use Rattle.rows.specs.Rows.{Inside, At, AtStrs, Stands};
 ghost use Rattle.writing.specs.Writes.{stored, Areas, Room, PutAnswer, RowAnswer, LitAnswer, StandStrs, StrsAnswer, Answer};
 ghost use Rattle.writing.specs.Keeps.{KeptAnswer, Ready};
-ghost use Rattle.writing.specs.Copies.{rowText, rowWords, runText, runWords};
+ghost use Rattle.writing.specs.Copies.{runText, runWords, Runs, Pending, RanAnswer, MovedAnswer};
 use rows::Lookup;
 use rows::Shape;
 
@@ -91,27 +91,73 @@ pub fn put_lit(
     put_row(out, q, kind, at as u32, n as u32, 1)
 }
 
-// Writes row i of a table at p, its literal packed.
+// Literals that stand side by side in a text and go to `at`: `size` bytes from `from` on, not yet copied.
+struct Run {
+    from: usize,
+    size: usize,
+    at: usize,
+}
+
+// The run after one more literal, or Full where that does not fit.
+enum Ran {
+    Done(Run),
+    Full,
+}
+
+// One more literal: part of the run where it stands next to it, else the run is copied and it begins another.
+fn next_lit(text: &[u8], x: usize, n: usize, lits: &mut [u8], g: Run) -> Ran
+    requires { ⌜ x + n ≤ length (now text) ⌝ }
+    requires { ⌜ Runs g (now text) (now lits) ⌝ }
+    ensures { λ a. ⌜ ((o : ℕ) (bs t : List ℕ) → Pending g o (now (text .entry)) bs t (now (lits .entry)) → RanAnswer a o (now (text .entry)) (bs ++ bytesAt (now (text .entry)) (x, n)) t (now (lits .exit))) ⌝ }
+{
+    let end = g.at + g.size;
+    if lits.len() - end < n {
+        return Ran::Full;
+    }
+    if x == g.from + g.size {
+        return Ran::Done(Run {
+            from: g.from,
+            size: g.size + n,
+            at: g.at,
+        });
+    }
+    copy_bytes(text, g.from, g.size, lits, g.at);
+    Ran::Done(Run {
+        from: x,
+        size: n,
+        at: end,
+    })
+}
+
+// Writes row i of a table as row j, its literal packed after the run.
 fn copy_row(
     rows: &[u32],
     text: &[u8],
     i: usize,
     out: &mut [u32],
+    j: usize,
     lits: &mut [u8],
-    p: Place,
-) -> Wrote
-    requires { ⌜ i < length (now rows) / 4 ⌝ }
+    g: Run,
+) -> Ran
+    requires { ⌜ (i < length (now rows) / 4) × (j < length (now out) / 4) ⌝ }
     requires { ⌜ Inside (now rows) (length (now text)) ⌝ }
-    requires { ⌜ Room p (now out) (now lits) ⌝ }
-    ensures { λ a. ⌜ PutAnswer a p 1 (rowWords (p .text) (now (text .entry)) (now (rows .entry)) i) (rowText (now (text .entry)) (now (rows .entry)) i) (now (out .entry)) (now (out .exit)) (now (lits .entry)) (now (lits .exit)) ⌝ }
+    requires { ⌜ Runs g (now text) (now lits) ⌝ }
+    requires { ⌜ length (now lits) < 2 ^ 32 ⌝ }
+    ensures { λ a. ⌜ ((o : ℕ) (bs t : List ℕ) → Pending g o (now (text .entry)) bs t (now (lits .entry)) → MovedAnswer a o (now (text .entry)) (now (rows .entry)) i j bs (now (out .entry)) (now (out .exit)) t (now (lits .exit))) ⌝ }
 {
     let Lookup::Row { kind, x, y, size } = rows::row_at(rows, i) else {
-        return Wrote::Full;
+        return Ran::Full;
     };
     if let Shape::Lit = rows::shape_of(kind) {
-        put_lit(text, x as usize, y as usize, kind, out, lits, p)
+        let at = g.at + g.size;
+        let Ran::Done(h) = next_lit(text, x as usize, y as usize, lits, g) else {
+            return Ran::Full;
+        };
+        set_row(out, j, kind, at as u32, y, 1);
+        Ran::Done(h)
     } else {
-        put_row(out, p, kind, x, y, size)
+        set_row(out, j, kind, x, y, size);
+        Ran::Done(g)
     }
 }
 
@@ -130,16 +176,28 @@ fn copy_rows(
     requires { ⌜ Room p (now out) (now lits) ⌝ }
     ensures { λ a. ⌜ PutAnswer a p n (runWords (p .text) (now (text .entry)) (now (rows .entry)) i n) (runText (now (text .entry)) (now (rows .entry)) i n) (now (out .entry)) (now (out .exit)) (now (lits .entry)) (now (lits .exit)) ⌝ }
 {
-    let mut q = p;
+    let first = p.rows;
+    if out.len() / 4 - first < n {
+        return Wrote::Full;
+    }
+    let mut g = Run {
+        from: 0,
+        size: 0,
+        at: p.text,
+    };
     let mut k = 0;
     while k < n {
-        let Wrote::Done(s) = copy_row(rows, text, i + k, out, lits, q) else {
+        let Ran::Done(h) = copy_row(rows, text, i + k, out, first + k, lits, g) else {
             return Wrote::Full;
         };
-        q = s;
+        g = h;
         k += 1;
     }
-    Wrote::Done(q)
+    copy_bytes(text, g.from, g.size, lits, g.at);
+    Wrote::Done(Place {
+        rows: first + n,
+        text: g.at + g.size,
+    })
 }
 
 // Writes the k strings of a Skip that stand from row `first` on, their literals packed.
