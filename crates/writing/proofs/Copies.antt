@@ -1,13 +1,12 @@
 -- A run of rows, copied one by one, is the packed tree that stands in it. Assumes nothing.
-use mathlib.Core.Path.{_≡_, refl, sym, ap, subst, _∙_}
+use mathlib.Core.Path.{_≡_, refl, sym, _∙_}
 use mathlib.Core.List.{List, [], _∷_, _++_, append-assoc, append-nil, map}
-use Prim.Native.Nat.{ℕ, zero, suc, _+_, _-_, _*_, _≤_, _<_}
-use native.Mathlib.Nat.{add-zero, zero-add, add-suc, suc-add}
-use native.Mathlib.Numerals.{add-one}
+use Prim.Native.Nat.{ℕ, zero, suc, _+_, _-_, _*_}
+use native.Mathlib.Nat.{add-zero, zero-add, suc-add}
 use native.Mathlib.Omega.{arith}
 use lib.ListN.{length, length-append, length-map}
 use Rattle.grammar.specs.Basic.{Bytes}
-use Rattle.grammar.specs.Tree.{Str, Expr, lit, fixed, skip, un, bin, litKind, fixedHead, unHead, binKind, size}
+use Rattle.grammar.specs.Tree.{Str, Expr, lit, fixed, skip, un, bin, size}
 use Rattle.grammar.specs.Rows.{Span, row, strRows, flat}
 use Rattle.grammar.specs.Text.{bytesAt, resolve, joined, textOf, spans, packed}
 use Rattle.rows.specs.declared.Shape.{Shape}
@@ -18,9 +17,7 @@ use Rattle.rows.proofs.Cells.{lit-shape, fixed-shape, un-shape, bin-shape, skip
 use Rattle.writing.proofs.Trees.{length-spans, size-packed, put-answer}
 use Rattle.writing.specs.declared.Place.{Place}
 use Rattle.writing.specs.declared.Wrote.{Wrote}
-use Rattle.writing.specs.declared.Wrote.the-variants.{Done, Full}
-use Rattle.writing.specs.Writes.{Fit, Put, PutAnswer, RowAnswer, LitAnswer, StrsAnswer, Answer}
-use Rattle.writing.proofs.Puts.{put-row, put-then, fit-front}
+use Rattle.writing.specs.Writes.{PutAnswer, StrsAnswer, Answer}
 use Rattle.writing.specs.Copies.{textBy, wordsBy, rowText, rowWords, runText, runWords}
 
 -- ---- one row
@@ -30,9 +27,9 @@ module _ (t : Bytes) {w : List ℕ} {i k x y n : ℕ} (f : Found w i k x y n) wh
   unfolding rowText
   lit-text s = rw (f .kind, f .x, f .y, s)
 
-  pub lit-words : (o : ℕ) → shapeOf k ≡ Lit → rowWords o t w i ≡ row (k, o, length (bytesAt t (x, y))) 1
+  pub lit-words : (o : ℕ) → shapeOf k ≡ Lit → rowWords o t w i ≡ row (k, o, length (bytesAt t (x, y))) n
   unfolding rowWords rowText
-  lit-words o s = rw (f .kind, f .x, f .y, s)
+  lit-words o s = rw (f .kind, f .x, f .y, f .rows, s)
 
   pub other-text : (shapeOf k ≡ Lit → ⊥) → rowText t w i ≡ []
   unfolding rowText
@@ -164,27 +161,6 @@ module _ (t : Bytes) {w : List ℕ} where
       ∙ rw (n, m) (simp append-assoc)
 
 -- ---- what the copies of rows answer
-
-module _ (t : Bytes) {w : List ℕ} {i k x y n : ℕ} (f : Found w i k x y n) (a : Wrote) (p : Place) (o o′ b : List ℕ) where
-  pub lit-copied : (b′ : List ℕ) → shapeOf k ≡ Lit → LitAnswer a p k (bytesAt t (x, y)) o o′ b b′ → PutAnswer a p 1 (rowWords (p .text) t w i) (rowText t w i) o o′ b b′
-  lit-copied b′ s h = rw (lit-words t f (p .text) s, lit-text t f s) h
-
-  pub other-copied : p .text ≤ length b → (shapeOf k ≡ Lit → ⊥) → RowAnswer a p (k, x, y) n o o′ → PutAnswer a p 1 (rowWords (p .text) t w i) (rowText t w i) o o′ b b
-  other-copied l s h = rw (other-words t f (p .text) s, other-text t f s) (put-row a p (k, x, y) n o o′ b l h)
-
-module _ (t : Bytes) (w : List ℕ) (i k : ℕ) {q p : Place} {o o₁ b b₁ : List ℕ} (u : Put q p k (runWords (p .text) t w i k) (runText t w i k) o o₁ b b₁) where
-  pub run-more : (a : Wrote) (o₂ b₂ : List ℕ) → PutAnswer a q 1 (rowWords (q .text) t w (i + k)) (rowText t w (i + k)) o₁ o₂ b₁ b₂
-      → PutAnswer a p (k + 1) (runWords (p .text) t w i (k + 1)) (runText t w i (k + 1)) o o₂ b b₂
-  run-more a o₂ b₂ h =
-      let y = put-then u (length-words t w (p .text) i k) a 1 _ _ o₂ b₂ h in
-      rw (words-more t w (p .text) i k, text-more t w i k) (rw (u .text) at y)
-
-  -- a row that does not fit, and so all the rows
-  pub run-full : (n : ℕ) → k < n → (Fit q 1 (length (rowText t w (i + k))) o₁ b₁ → ⊥) → Fit p n (length (runText t w i n)) o b → ⊥
-  run-full n l h f =
-      let e : n ≡ k + 1 + (n - (k + 1)) = omega arith in
-      let g : Fit p (k + 1 + (n - (k + 1))) (length (runText t w i (k + 1) ++ runText t w (i + (k + 1)) (n - (k + 1)))) o b = rw (← (text-append t w i (k + 1) (n - (k + 1))), ← e) f in
-      run-more Full o₁ b₁ h (fit-front (k + 1) (n - (k + 1)) (runText t w i (k + 1)) _ g)
 
 -- all rows of a tree, and of a Skip's strings
 module _ (t : Bytes) {w : List ℕ} (a : Wrote) (p : Place) (o o′ b b′ : List ℕ) where

@@ -1,11 +1,12 @@
 -- Literals that stand side by side, copied as one. Assumes nothing.
 use mathlib.Core.Path.{_≡_, refl, sym, ap, ap₂, subst, _∙_}
-use mathlib.Core.List.{List, [], _∷_, _++_, append-assoc, append-nil}
-use Prim.Native.Nat.{ℕ, zero, suc, _+_, _-_, _*_, _/_, _≤_, _<_}
+use mathlib.Core.List.{List, [], _++_, append-assoc, append-nil}
+use Prim.Native.Nat.{ℕ, suc, _+_, _-_, _*_, _/_, _≤_, _<_}
 use native.Mathlib.Nat.{add-zero}
+use native.Mathlib.Numerals.{add-one}
 use native.Mathlib.Omega.{arith}
-use lib.ListN.{length, take, drop, length-append}
-use lib.Seq.{take-add, drop-drop}
+use lib.ListN.{length, take, drop, set, length-append}
+use lib.Seq.{take-add, drop-drop, set-set, set-comm}
 use Rattle.grammar.specs.Basic.{Bytes}
 use Rattle.grammar.specs.Rows.{row}
 use Rattle.grammar.specs.Text.{bytesAt}
@@ -16,8 +17,8 @@ use Rattle.writing.specs.declared.Place.{Place}
 use Rattle.writing.specs.declared.Run.{Run}
 use Rattle.writing.specs.declared.Ran.{Ran}
 use Rattle.writing.specs.declared.Ran.the-variants.{Done, Full}
-use Rattle.writing.specs.Writes.{stored, Fit, Put}
-use Rattle.writing.specs.Copies.{rowText, rowWords, runText, runWords, Runs, Pending, RanAnswer, Moved, MovedAnswer}
+use Rattle.writing.specs.Writes.{stored, Put}
+use Rattle.writing.specs.Copies.{rowText, runText, runWords, Runs, Pending, RanAnswer, Moved, MovedAnswer}
 use Rattle.writing.proofs.Runs.{length-stored, stored-none, stored-then}
 use Rattle.writing.proofs.Copies.{lit-text, lit-words, other-text, other-words, text-append, text-more, words-more, length-words}
 
@@ -64,9 +65,9 @@ module _ {g : Run} {o : ℕ} {s bs t t′ : List ℕ} (p : Pending g o s bs t t�
       runs = record { inside = omega arith; room = omega (arith, p .runs .room, pending-length) };
       place = p .place;
       is =
-        ap₂ (λ (u v : List ℕ). u ++ v) (p .is) (ap (λ (k : ℕ). bytesAt s (k, n)) e)
-        ∙ append-assoc (p .copied) (bytesAt s (g .from, g .size)) (bytesAt s (g .from + g .size, n))
-        ∙ ap (λ (u : List ℕ). p .copied ++ u) (part-append s (g .from) (g .size) n);
+          ap₂ (λ (u v : List ℕ). u ++ v) (p .is) (ap (λ (k : ℕ). bytesAt s (k, n)) e)
+          ∙ append-assoc (p .copied) (bytesAt s (g .from, g .size)) (bytesAt s (g .from + g .size, n))
+          ∙ ap (λ (u : List ℕ). p .copied ++ u) (part-append s (g .from) (g .size) n);
       bytes = p .bytes;
     }
 
@@ -92,12 +93,22 @@ moved-done o s w i j bs u u′ t t′ d h = subst (λ (z : Ran). MovedAnswer z o
 pub moved-full : {a : Ran} (o : ℕ) (s w : List ℕ) (i j : ℕ) (bs u u′ t t′ : List ℕ) → a ≡ Full → MovedAnswer a o s w i j bs u u′ t t′ → o + length (bs ++ rowText s w i) ≤ length t → ⊥
 moved-full o s w i j bs u u′ t t′ d h = subst (λ (z : Ran). MovedAnswer z o s w i j bs u u′ t t′) d h
 
+-- a row's offset, set after its four words
+offset-set : (l : List ℕ) (i k x y n v : ℕ) → set (stored l i (row (k, x, y) n)) (i + 1) v ≡ stored l i (row (k, v, y) n)
+unfolding stored
+offset-set l i k x y n v =
+    let c : List ℕ = set l i k in
+    ap (λ (m : ℕ). set (set (set (set c (suc i) x) (suc (suc i)) y) (suc (suc (suc i))) n) m v) (add-one i)
+    ∙ set-comm (set (set c (suc i) x) (suc (suc i)) y) (suc (suc (suc i))) (suc i) n v (λ e. omega (arith, e))
+    ∙ ap (λ (z : List ℕ). set z (suc (suc (suc i))) n) (set-comm (set c (suc i) x) (suc (suc i)) (suc i) y v (λ e. omega (arith, e)))
+    ∙ ap (λ (z : List ℕ). set (set z (suc (suc i)) y) (suc (suc (suc i))) n) (set-set c (suc i) x v)
+
 -- one row
 module _ (s : Bytes) {w : List ℕ} {i k x y n : ℕ} (f : Found w i k x y n) {o : ℕ} {bs t t′ : List ℕ} where
-  pub lit-moved : {g h : Run} (j : ℕ) (u u′ t″ : List ℕ) → shapeOf k ≡ Lit → x + y ≤ length s → Pending g o s bs t t′ → Pending h o s (bs ++ bytesAt s (x, y)) t t″
-      → u′ ≡ stored u (j * 4) (row (k, g .at + g .size, y) 1) → Moved h o s w i j bs u u′ t t″
-  lit-moved {g} {h} j u u′ t″ c l p q e = record {
-    words = rw (lit-words s f (o + length bs) c, length-part s x y l, ← (pending-end p)) e;
+  pub lit-moved : {g h : Run} (j : ℕ) (u u₁ u′ t″ : List ℕ) → shapeOf k ≡ Lit → x + y ≤ length s → Pending g o s bs t t′ → Pending h o s (bs ++ bytesAt s (x, y)) t t″
+      → u₁ ≡ stored u (j * 4) (row (k, x, y) n) → u′ ≡ set u₁ (j * 4 + 1) (g .at + g .size) → Moved h o s w i j bs u u′ t t″
+  lit-moved {g} {h} j u u₁ u′ t″ c l p q d e = record {
+    words = e ∙ rw (d, lit-words s f (o + length bs) c, length-part s x y l, ← (pending-end p)) (offset-set u (j * 4) k x y n (g .at + g .size));
     pending = rw (lit-text s f c) q;
   }
 

@@ -24,7 +24,7 @@ textBy Skips t x y = []
 
 -- the words of a row with its literal s at offset o
 abbrev pub wordsBy : Shape → ℕ → Bytes → ℕ → ℕ → ℕ → ℕ → List ℕ
-wordsBy Lit o s k x y n = row (k, o, length s) 1
+wordsBy Lit o s k x y n = row (k, o, length s) n
 wordsBy Num o s k x y n = row (k, x, y) n
 wordsBy One o s k x y n = row (k, x, y) n
 wordsBy Two o s k x y n = row (k, x, y) n

@@ -2,7 +2,7 @@
 ghost use mathlib.Core.Path.{_≡_};
 ghost use mathlib.Core.List.{List, map, _++_};
 ghost use Prim.Native.Nat.{ℕ, _+_, _*_, _/_, _^_, _≤_, _<_};
-ghost use lib.ListN.{length};
+ghost use lib.ListN.{length, set};
 ghost use Rattle.grammar.specs.Tree.{Expr};
 ghost use Rattle.grammar.specs.Rows.{Span, row};
 ghost use Rattle.grammar.specs.Text.{bytesAt, resolve};
@@ -47,6 +47,14 @@ pub fn set_row(out: &mut [u32], i: usize, kind: u32, x: u32, y: u32, size: u32)
     out[at + 1] = x;
     out[at + 2] = y;
     out[at + 3] = size;
+}
+
+// Writes the offset of row i.
+fn set_offset(out: &mut [u32], i: usize, x: u32)
+    requires { ⌜ i < length (now out) / 4 ⌝ }
+    ensures { λ _. ⌜ now (out .exit) ≡ set (now (out .entry)) (i * 4 + 1) x ⌝ }
+{
+    out[i * 4 + 1] = x;
 }
 
 // Writes one row at p.
@@ -145,18 +153,20 @@ fn copy_row(
     requires { ⌜ length (now lits) < 2 ^ 32 ⌝ }
     ensures { λ a. ⌜ ((o : ℕ) (bs t : List ℕ) → Pending g o (now (text .entry)) bs t (now (lits .entry)) → MovedAnswer a o (now (text .entry)) (now (rows .entry)) i j bs (now (out .entry)) (now (out .exit)) t (now (lits .exit))) ⌝ }
 {
-    let Lookup::Row { kind, x, y, size } = rows::row_at(rows, i) else {
-        return Ran::Full;
-    };
+    let from = i * 4;
+    let kind = rows[from];
+    let x = rows[from + 1];
+    let y = rows[from + 2];
+    set_row(out, j, kind, x, y, rows[from + 3]);
     if let Shape::Lit = rows::shape_of(kind) {
-        let at = g.at + g.size;
+        let end = g.at + g.size;
         let Ran::Done(h) = next_lit(text, x as usize, y as usize, lits, g) else {
             return Ran::Full;
         };
-        set_row(out, j, kind, at as u32, y, 1);
+        // the four words go as one, and a literal's offset after them
+        set_offset(out, j, end as u32);
         Ran::Done(h)
     } else {
-        set_row(out, j, kind, x, y, size);
         Ran::Done(g)
     }
 }

@@ -1,7 +1,6 @@
-use mathlib.Core.Path.{_≡_, refl, sym, ap, _∙_}
-use Prim.Native.Nat.{_+_, _-_, _/_, _≤_, _<_}
+use mathlib.Core.Path.{_≡_, refl, sym, _∙_}
+use Prim.Native.Nat.{_-_, _≤_}
 use native.Mathlib.Omega.{arith}
-use lib.ListN.{length}
 use borrow.Author.Needs.{needs}
 use Rattle.writing.proofs.Runs.{stored-none}
 use Rattle.writing.proofs.Pendings.{Moving, none-pending, pending-length, pending-runs, moved-done, moved-full, moving-length, moving-more, moving-full, moving-done}

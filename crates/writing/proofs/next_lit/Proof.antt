@@ -1,13 +1,11 @@
-use Prim.Native.Nat.{_+_, _-_, _≤_}
 use native.Mathlib.Omega.{arith}
-use lib.ListN.{length}
 use Rattle.writing.proofs.Pendings.{lit-full, lit-joins, lit-begins}
 use borrow.Author.Needs.{needs}
 use Rattle.writing.proofs.next_lit.Statement.{statement}
 use Rattle.writing.proofs.next_lit.Tie as tie
 
-add-at : tie.Need-add-at
-add-at c = search needs
+add-end : tie.Need-add-end
+add-end c = search needs
 
 sub-if1 : tie.Need-sub-if1
 sub-if1 c = search needs
@@ -37,7 +35,7 @@ pub next-lit-spec : {M : Type 1} → statement M
 next-lit-spec =
     tie.close
     (tie.spec
-    add-at
+    add-end
     sub-if1
     returns
     add-if2
