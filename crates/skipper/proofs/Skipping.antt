@@ -156,7 +156,7 @@ leaf-node : {w : List ℕ} {i : ℕ} (r : Expr Span) → At w i r → nodeOf (he
 unfolding nodeOf
 leaf-node r a = ap nodeBy (shape-in r)
 
-no-child : (t : Table Bytes) (s : Bytes) (r : Expr Span) → nodeBy (shapeIn r) ≡ Leaf → skipped t (resolve s r) ≡ resolve s r
+pub no-child : (t : Table Bytes) (s : Bytes) (r : Expr Span) → nodeBy (shapeIn r) ≡ Leaf → skipped t (resolve s r) ≡ resolve s r
 unfolding loopOver
 no-child t s (lit k p) h = skip-stays t (resolve s (lit k p)) (skip-none t (resolve s (lit k p)) refl)
 no-child t s (fixed f) h = skip-stays t (fixed f) (skip-none t (fixed f) refl)

@@ -7,7 +7,7 @@ ghost use Prim.Native.Nat.{ℕ, _+_, _-_, _*_, _/_, _^_, _≤_, _<_};
 ghost use mathlib.Core.Option.{some};
 ghost use lib.ListN.{length, getD, getElem?};
 ghost use Rattle.grammar.specs.Basic.{Bytes, any};
-ghost use Rattle.grammar.specs.Tree.{Expr, Rep, un, skip, anyNode, asNegPred};
+ghost use Rattle.grammar.specs.Tree.{Expr, Un, Rep, un, skip, anyNode, asNegPred};
 ghost use Rattle.grammar.specs.Rows.{Span};
 ghost use Rattle.grammar.specs.Text.{bytesAt, resolve};
 ghost use Rattle.grammar.specs.Table.{Table, Rule, ruleWords, resolveRule, resolveTable};
@@ -16,12 +16,13 @@ ghost use Rattle.grammar.specs.Steps.{rotate, isAtomic, topDown, orSame, skip?,
 ghost use Rattle.rows.specs.Rows.{Inside, At, Stands, kindAt};
 ghost use Rattle.writing.specs.Writes.{Room, RowAnswer, StrsAnswer, Answer};
 ghost use Rattle.names.specs.Names.{First, Hashed, marked};
+ghost use Rattle.chains.specs.Runs.{wrap};
 ghost use Rattle.skipper.specs.Memory.{byMarks};
 ghost use Rattle.skipper.specs.Lends.{marksOf, Given, Lent, Ran, ReadsOf};
 ghost use Rattle.skipper.specs.Loops.{LoopAnswer, TreeRows, openAt, ruleOpen, LoopsOf};
 ghost use Rattle.skipper.specs.Lists.{ListsAnswer};
-ghost use Rattle.skipper.specs.declared.Node.the-variants.{Single, Pair};
-ghost use Rattle.skipper.specs.Skips.{nodeOf, isList, ListAnswer, Spells, Spelled, Skipped, Settles, Settling};
+ghost use Rattle.skipper.specs.declared.Node.the-variants.{Pair};
+ghost use Rattle.skipper.specs.Skips.{nodeOf, isList, ListAnswer, Spells, Spelled, Skipped, Settles, Settling, FallAnswer, Rising, RisenAnswer};
 use names::Found;
 use rows::Lookup;
 use rows::Shape;
@@ -52,6 +53,13 @@ pub enum Node {
     Leaf,
     Single,
     Pair,
+}
+
+// Where a way down through rows with one child ends: with nothing to skip, at a loop over row e that has a list, at a row with two children.
+pub enum Fallen {
+    Plain,
+    Looped { base: usize, e: usize },
+    Forked { base: usize, kind: u32 },
 }
 
 // Reads rule i, which was not read.
@@ -654,76 +662,143 @@ pub fn write_skip(
     put_node(out, p, q, 17, n as u32, 0)
 }
 
-// Step 2 at a row with one child.
-pub fn skip_one(
+// Goes down from `root` through rows with one child, as long as none is a loop that has a list.
+pub fn fall(
+    rules: &[u32],
+    given: &[u8],
+    marks: &[u32],
+    rows: &[u32],
+    text: &[u8],
+    root: usize,
+) -> Fallen
+    requires { ⌜ Hashed (now rules) (now given) (now marks) ⌝ }
+    requires { ⌜ Inside (now rows) (length (now text)) ⌝ }
+    requires { ⌜ Stands (now rows) root ⌝ }
+    ensures { λ a. ⌜ ((t : Table Span) (r : Expr Span) → now (rules .entry) ≡ ruleWords t → At (now (rows .entry)) root r → Settles (resolveTable (now (given .entry)) t) (now (marks .entry)) (resolve (now (text .entry)) r) → FallAnswer a (resolveTable (now (given .entry)) t) (now (marks .entry)) (now (rows .entry)) (now (text .entry)) root r) ⌝ }
+{
+    let mut base = root;
+    while base > 0 {
+        let Lookup::Row {
+            kind,
+            x: _,
+            y: _,
+            size: _,
+        } = rows::row_at(rows, base)
+        else {
+            return Fallen::Plain;
+        };
+        match node_of(kind) {
+            Node::Leaf => {
+                return Fallen::Plain;
+            }
+            Node::Single => {
+                match list_at(rules, given, marks, rows, text, base) {
+                    Loop::Over(e) => {
+                        return Fallen::Looped { base: base, e: e };
+                    }
+                    Loop::Nothing => {
+                        base -= 1;
+                    }
+                }
+            }
+            Node::Pair => {
+                return Fallen::Forked {
+                    base: base,
+                    kind: kind,
+                };
+            }
+        }
+    }
+    Fallen::Plain
+}
+
+// Writes the rows after `base` up to `root` over the tree that stands from p to q, with its sizes.
+pub fn rise(rows: &[u32], base: usize, root: usize, out: &mut [u32], p: Place, q: Place) -> Wrote
+    requires { ⌜ Rising (now rows) base root p q (now out) ⌝ }
+    ensures { λ a. ⌜ ((us : List Un) (r : Expr Span) → At (now (rows .entry)) root (wrap us r) → base + length us ≡ root → RisenAnswer a q p us (now (out .entry)) (now (out .exit))) ⌝ }
+{
+    let mut at = q.rows;
+    let mut i = base;
+    while i < root {
+        i += 1;
+        let Lookup::Row {
+            kind,
+            x,
+            y,
+            size: _,
+        } = rows::row_at(rows, i)
+        else {
+            return Wrote::Full;
+        };
+        let Wrote::Done(_) = put_node(
+            out,
+            p,
+            Place {
+                rows: at,
+                text: q.text,
+            },
+            kind,
+            x,
+            y,
+        ) else {
+            return Wrote::Full;
+        };
+        at += 1;
+    }
+    Wrote::Done(Place {
+        rows: at,
+        text: q.text,
+    })
+}
+
+// Writes the Skip of the loop's expression e, and over it the rows after `base` up to `root`.
+pub fn skip_loop(
     given_rules: &[u32],
     given_rows: &[u32],
     given_text: &[u8],
     marks: &[u32],
     rows: &[u32],
     text: &[u8],
+    base: usize,
     root: usize,
+    e: usize,
     out: &mut [u32],
     lits: &mut [u8],
     p: Place,
 ) -> Wrote
     requires { ⌜ Given (now «given_rules») (now «given_rows») (now «given_text») (now marks) ⌝ }
     requires { ⌜ Inside (now rows) (length (now text)) ⌝ }
-    requires { ⌜ Settling (now «given_rules») (now «given_rows») (now «given_text») (now marks) (now rows) (now text) root ⌝ }
-    requires { ⌜ nodeOf (kindAt (now rows) root) ≡ Single ⌝ }
+    requires { ⌜ Skipped (now «given_rules») (now «given_rows») (now «given_text») (now rows) (now text) e ⌝ }
+    requires { ⌜ (base ≤ root) × (root < length (now rows) / 4) ⌝ }
     requires { ⌜ Room p (now out) (now lits) ⌝ }
-    ensures { λ a. ⌜ ((t : Table Span) (r : Expr Span) → Lent (now («given_rules» .entry)) (now («given_rows» .entry)) t → At (now (rows .entry)) root r → Settles (resolveTable (now («given_text» .entry)) t) (now (marks .entry)) (resolve (now (text .entry)) r) → Answer a p (topDown (orSame (skip? (resolveTable (now («given_text» .entry)) t))) (resolve (now (text .entry)) r)) (now (out .entry)) (now (out .exit)) (now (lits .entry)) (now (lits .exit))) ⌝ }
+    ensures { λ a. ⌜ ((t : Table Span) (us : List Un) (c r : Expr Span) (ss : List Bytes) → Lent (now («given_rules» .entry)) (now («given_rows» .entry)) t → At (now (rows .entry)) root (wrap us c) → base + length us ≡ root → At (now (rows .entry)) e r → skipList (resolveTable (now («given_text» .entry)) t) (resolve (now (text .entry)) r) ≡ strings ss → Answer a p (wrap us (skip ss)) (now (out .entry)) (now (out .exit)) (now (lits .entry)) (now (lits .exit))) ⌝ }
 {
-    match list_at(given_rules, given_text, marks, rows, text, root) {
-        Loop::Over(e) => write_skip(
-            given_rules,
-            given_rows,
-            given_text,
-            marks,
-            rows,
-            text,
-            e,
-            out,
-            lits,
-            p,
-        ),
-        Loop::Nothing => {
-            let Lookup::Row {
-                kind,
-                x,
-                y,
-                size: _,
-            } = rows::row_at(rows, root)
-            else {
-                return Wrote::Full;
-            };
-            let Wrote::Done(q) = skip_tree(
-                given_rules,
-                given_rows,
-                given_text,
-                marks,
-                rows,
-                text,
-                root - 1,
-                out,
-                lits,
-                p,
-            ) else {
-                return Wrote::Full;
-            };
-            put_node(out, p, q, kind, x, y)
-        }
-    }
+    let Wrote::Done(q) = write_skip(
+        given_rules,
+        given_rows,
+        given_text,
+        marks,
+        rows,
+        text,
+        e,
+        out,
+        lits,
+        p,
+    ) else {
+        return Wrote::Full;
+    };
+    rise(rows, base, root, out, p, q)
 }
 
-// Step 2 at a row with two children.
-pub fn skip_two(
+// Step 2 at a row with two children, and over it the rows after `base` up to `root`.
+pub fn skip_fork(
     given_rules: &[u32],
     given_rows: &[u32],
     given_text: &[u8],
     marks: &[u32],
     rows: &[u32],
     text: &[u8],
+    base: usize,
     root: usize,
     kind: u32,
     out: &mut [u32],
@@ -732,12 +807,13 @@ pub fn skip_two(
 ) -> Wrote
     requires { ⌜ Given (now «given_rules») (now «given_rows») (now «given_text») (now marks) ⌝ }
     requires { ⌜ Inside (now rows) (length (now text)) ⌝ }
-    requires { ⌜ Settling (now «given_rules») (now «given_rows») (now «given_text») (now marks) (now rows) (now text) root ⌝ }
-    requires { ⌜ (kind ≡ kindAt (now rows) root) × (nodeOf kind ≡ Pair) ⌝ }
+    requires { ⌜ Settling (now «given_rules») (now «given_rows») (now «given_text») (now marks) (now rows) (now text) base ⌝ }
+    requires { ⌜ (kind ≡ kindAt (now rows) base) × (nodeOf kind ≡ Pair) ⌝ }
+    requires { ⌜ (base ≤ root) × (root < length (now rows) / 4) ⌝ }
     requires { ⌜ Room p (now out) (now lits) ⌝ }
-    ensures { λ a. ⌜ ((t : Table Span) (r : Expr Span) → Lent (now («given_rules» .entry)) (now («given_rows» .entry)) t → At (now (rows .entry)) root r → Settles (resolveTable (now («given_text» .entry)) t) (now (marks .entry)) (resolve (now (text .entry)) r) → Answer a p (topDown (orSame (skip? (resolveTable (now («given_text» .entry)) t))) (resolve (now (text .entry)) r)) (now (out .entry)) (now (out .exit)) (now (lits .entry)) (now (lits .exit))) ⌝ }
+    ensures { λ a. ⌜ ((t : Table Span) (us : List Un) (r : Expr Span) → Lent (now («given_rules» .entry)) (now («given_rows» .entry)) t → At (now (rows .entry)) base r → Settles (resolveTable (now («given_text» .entry)) t) (now (marks .entry)) (resolve (now (text .entry)) r) → At (now (rows .entry)) root (wrap us r) → base + length us ≡ root → Answer a p (wrap us (topDown (orSame (skip? (resolveTable (now («given_text» .entry)) t))) (resolve (now (text .entry)) r))) (now (out .entry)) (now (out .exit)) (now (lits .entry)) (now (lits .exit))) ⌝ }
 {
-    let right = root - 1;
+    let right = base - 1;
     let Lookup::Row {
         kind: _,
         x: _,
@@ -776,10 +852,14 @@ pub fn skip_two(
     ) else {
         return Wrote::Full;
     };
-    put_node(out, p, s, kind, 0, 0)
+    let Wrote::Done(v) = put_node(out, p, s, kind, 0, 0) else {
+        return Wrote::Full;
+    };
+    rise(rows, base, root, out, p, v)
 }
 
 // Step 2 from the top of a subtree, as it stands after step 1, with lists looked up in the table as it was given.
+// Rows with one child take a loop down and a loop up, not a call each: a run of them takes no stack.
 pub fn skip_tree(
     given_rules: &[u32],
     given_rows: &[u32],
@@ -798,36 +878,30 @@ pub fn skip_tree(
     requires { ⌜ Room p (now out) (now lits) ⌝ }
     ensures { λ a. ⌜ ((t : Table Span) (r : Expr Span) → Lent (now («given_rules» .entry)) (now («given_rows» .entry)) t → At (now (rows .entry)) root r → Settles (resolveTable (now («given_text» .entry)) t) (now (marks .entry)) (resolve (now (text .entry)) r) → Answer a p (topDown (orSame (skip? (resolveTable (now («given_text» .entry)) t))) (resolve (now (text .entry)) r)) (now (out .entry)) (now (out .exit)) (now (lits .entry)) (now (lits .exit))) ⌝ }
 {
-    let Lookup::Row {
-        kind,
-        x: _,
-        y: _,
-        size: _,
-    } = rows::row_at(rows, root)
-    else {
-        return Wrote::Full;
-    };
-    match node_of(kind) {
-        Node::Leaf => writing::copy(rows, text, root, out, lits, p),
-        Node::Single => skip_one(
+    match fall(given_rules, given_text, marks, rows, text, root) {
+        Fallen::Plain => writing::copy(rows, text, root, out, lits, p),
+        Fallen::Looped { base, e } => skip_loop(
             given_rules,
             given_rows,
             given_text,
             marks,
             rows,
             text,
+            base,
             root,
+            e,
             out,
             lits,
             p,
         ),
-        Node::Pair => skip_two(
+        Fallen::Forked { base, kind } => skip_fork(
             given_rules,
             given_rows,
             given_text,
             marks,
             rows,
             text,
+            base,
             root,
             kind,
             out,
