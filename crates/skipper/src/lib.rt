@@ -37,7 +37,7 @@ const NONE: u32 = 2;
 const LIST: u32 = 3;
 
 // Where the expression of a loop stands.
-pub enum Loop {
+enum Loop {
     Over(usize),
     Nothing,
 }
@@ -49,21 +49,21 @@ pub enum Readings {
 }
 
 // How a walk from the top goes on: with no child, with one, with two.
-pub enum Node {
+enum Node {
     Leaf,
     Single,
     Pair,
 }
 
 // Where a way down through rows with one child ends: with nothing to skip, at a loop over row e that has a list, at a row with two children.
-pub enum Fallen {
+enum Fallen {
     Plain,
     Looped { base: usize, e: usize },
     Forked { base: usize, kind: u32 },
 }
 
 // Reads rule i, which was not read.
-pub fn read_rule(rules: &[u32], rows: &[u32], text: &[u8], marks: &mut [u32], i: usize) -> u32
+fn read_rule(rules: &[u32], rows: &[u32], text: &[u8], marks: &mut [u32], i: usize) -> u32
     requires { ⌜ Given (now rules) (now rows) (now text) (now marks) ⌝ }
     requires { ⌜ i < length (now rules) / 4 ⌝ }
     requires { ⌜ getD (now marks) (i * 4 + 1) 0 ≡ 0 ⌝ }
@@ -79,7 +79,7 @@ pub fn read_rule(rules: &[u32], rows: &[u32], text: &[u8], marks: &mut [u32], i:
 }
 
 // Reads a literal: what a Choice has on its left must be Str or Ident.
-pub fn read_leaf(rules: &[u32], rows: &[u32], text: &[u8], marks: &mut [u32], root: usize) -> u32
+fn read_leaf(rules: &[u32], rows: &[u32], text: &[u8], marks: &mut [u32], root: usize) -> u32
     requires { ⌜ Given (now rules) (now rows) (now text) (now marks) ⌝ }
     requires { ⌜ Stands (now rows) root ⌝ }
     ensures { λ a. ⌜ Ran (now (marks .entry)) (now (marks .exit)) a ⌝ }
@@ -111,7 +111,7 @@ pub fn read_leaf(rules: &[u32], rows: &[u32], text: &[u8], marks: &mut [u32], ro
 }
 
 // Reads a rule's expression: of a Choice the left side, then the right.
-pub fn read_in(rules: &[u32], rows: &[u32], text: &[u8], marks: &mut [u32], root: usize) -> u32
+fn read_in(rules: &[u32], rows: &[u32], text: &[u8], marks: &mut [u32], root: usize) -> u32
     requires { ⌜ Given (now rules) (now rows) (now text) (now marks) ⌝ }
     requires { ⌜ Stands (now rows) root ⌝ }
     ensures { λ a. ⌜ Ran (now (marks .entry)) (now (marks .exit)) a ⌝ }
@@ -147,7 +147,7 @@ pub fn read_in(rules: &[u32], rows: &[u32], text: &[u8], marks: &mut [u32], root
 }
 
 // Reads the expression of a loop, which counts as rotated: the leaves of its Choice tree from left to right.
-pub fn read_leaves(rules: &[u32], rows: &[u32], text: &[u8], marks: &mut [u32], root: usize) -> u32
+fn read_leaves(rules: &[u32], rows: &[u32], text: &[u8], marks: &mut [u32], root: usize) -> u32
     requires { ⌜ Given (now rules) (now rows) (now text) (now marks) ⌝ }
     requires { ⌜ Stands (now rows) root ⌝ }
     ensures { λ a. ⌜ Ran (now (marks .entry)) (now (marks .exit)) a ⌝ }
@@ -183,7 +183,7 @@ pub fn read_leaves(rules: &[u32], rows: &[u32], text: &[u8], marks: &mut [u32], 
 }
 
 // The row of e where !e ~ ANY stands at `root`.
-pub fn in_loop(rows: &[u32], text: &[u8], root: usize) -> Loop
+fn in_loop(rows: &[u32], text: &[u8], root: usize) -> Loop
     requires { ⌜ Inside (now rows) (length (now text)) ⌝ }
     requires { ⌜ Stands (now rows) root ⌝ }
     ensures { λ a. ⌜ ((r : Expr Span) → At (now (rows .entry)) root r → LoopAnswer a (now (rows .entry)) (now (text .entry)) (loopOver (un Rep (resolve (now (text .entry)) r)))) ⌝ }
@@ -221,7 +221,7 @@ pub fn in_loop(rows: &[u32], text: &[u8], root: usize) -> Loop
 }
 
 // The row of e where !e stands at `root`.
-pub fn after_not(rows: &[u32], root: usize) -> Loop
+fn after_not(rows: &[u32], root: usize) -> Loop
     requires { ⌜ Stands (now rows) root ⌝ }
     ensures { λ a. ⌜ ((s : Bytes) (r : Expr Span) → At (now (rows .entry)) root r → LoopAnswer a (now (rows .entry)) s (asNegPred (resolve s r))) ⌝ }
 {
@@ -241,7 +241,7 @@ pub fn after_not(rows: &[u32], root: usize) -> Loop
 }
 
 // Reads row i if it is a loop (!e ~ ANY)*.
-pub fn read_loop(rules: &[u32], rows: &[u32], text: &[u8], marks: &mut [u32], i: usize) -> u32
+fn read_loop(rules: &[u32], rows: &[u32], text: &[u8], marks: &mut [u32], i: usize) -> u32
     requires { ⌜ Given (now rules) (now rows) (now text) (now marks) ⌝ }
     requires { ⌜ Stands (now rows) i ⌝ }
     ensures { λ a. ⌜ Ran (now (marks .entry)) (now (marks .exit)) a ⌝ }
@@ -266,7 +266,7 @@ pub fn read_loop(rules: &[u32], rows: &[u32], text: &[u8], marks: &mut [u32], i:
 }
 
 // Reads the loops of the rows from `from` to `end`, which are one tree.
-pub fn read_loops(
+fn read_loops(
     rules: &[u32],
     rows: &[u32],
     text: &[u8],
@@ -291,7 +291,7 @@ pub fn read_loops(
 }
 
 // Reads the loops of rule k, if it is Atomic.
-pub fn read_atomic(rules: &[u32], rows: &[u32], text: &[u8], marks: &mut [u32], k: usize) -> u32
+fn read_atomic(rules: &[u32], rows: &[u32], text: &[u8], marks: &mut [u32], k: usize) -> u32
     requires { ⌜ Given (now rules) (now rows) (now text) (now marks) ⌝ }
     requires { ⌜ k < length (now rules) / 4 ⌝ }
     ensures { λ a. ⌜ Ran (now (marks .entry)) (now (marks .exit)) a ⌝ }
@@ -306,7 +306,7 @@ pub fn read_atomic(rules: &[u32], rows: &[u32], text: &[u8], marks: &mut [u32], 
 }
 
 // Reads the loops of all Atomic rules.
-pub fn read_rules(rules: &[u32], rows: &[u32], text: &[u8], marks: &mut [u32]) -> u32
+fn read_rules(rules: &[u32], rows: &[u32], text: &[u8], marks: &mut [u32]) -> u32
     requires { ⌜ Given (now rules) (now rows) (now text) (now marks) ⌝ }
     ensures { λ a. ⌜ Ran (now (marks .entry)) (now (marks .exit)) a ⌝ }
     ensures { λ a. ⌜ ((t : Table Span) → Lent (now (rules .entry)) (now (rows .entry)) t → LoopsOf (now (text .entry)) t (now (marks .entry)) (now (marks .exit)) a (λ look. any (ruleOpen look) (resolveTable (now (text .entry)) t))) ⌝ }
@@ -324,7 +324,7 @@ pub fn read_rules(rules: &[u32], rows: &[u32], text: &[u8], marks: &mut [u32]) -
 }
 
 // Clears the memories of the first `count` rules.
-pub fn forget(marks: &mut [u32], count: usize)
+fn forget(marks: &mut [u32], count: usize)
     requires { ⌜ count * 4 ≤ length (now marks) ⌝ }
     ensures { λ _. ⌜ now (marks .exit) ≡ marked (λ _. 0) 1 count (now (marks .entry)) ⌝ }
 {
@@ -351,7 +351,7 @@ pub fn read_lists(rules: &[u32], rows: &[u32], text: &[u8], marks: &mut [u32]) -
 }
 
 // How a walk goes on at a row of a kind.
-pub fn node_of(kind: u32) -> Node
+fn node_of(kind: u32) -> Node
     ensures { λ r. ⌜ r ≡ nodeOf kind ⌝ }
 {
     match rows::shape_of(kind) {
@@ -364,7 +364,7 @@ pub fn node_of(kind: u32) -> Node
 }
 
 // Whether a literal has a list, by the marks of the table with the text `given`.
-pub fn leaf_listed(
+fn leaf_listed(
     rules: &[u32],
     given: &[u8],
     marks: &[u32],
@@ -399,7 +399,7 @@ pub fn leaf_listed(
 }
 
 // Whether an expression has a list, by the marks.
-pub fn listed(
+fn listed(
     rules: &[u32],
     given: &[u8],
     marks: &[u32],
@@ -442,7 +442,7 @@ pub fn listed(
 }
 
 // The row of e where a loop (!e ~ ANY)* stands at `root` and e has a list.
-pub fn list_at(
+fn list_at(
     rules: &[u32],
     given: &[u8],
     marks: &[u32],
@@ -478,7 +478,7 @@ pub fn list_at(
 }
 
 // Writes the strings of a literal: itself, or those of the rule that it names, through at most `fuel` rules.
-pub fn write_leaf(
+fn write_leaf(
     given_rules: &[u32],
     given_rows: &[u32],
     given_text: &[u8],
@@ -530,7 +530,7 @@ pub fn write_leaf(
 }
 
 // Writes the strings of an expression that has a list, in reading order.
-pub fn write_list(
+fn write_list(
     given_rules: &[u32],
     given_rows: &[u32],
     given_text: &[u8],
@@ -615,7 +615,7 @@ pub fn write_list(
 }
 
 // Writes the root row over what stands from p to q.
-pub fn put_node(out: &mut [u32], p: Place, q: Place, kind: u32, x: u32, y: u32) -> Wrote
+fn put_node(out: &mut [u32], p: Place, q: Place, kind: u32, x: u32, y: u32) -> Wrote
     requires { ⌜ (p .rows ≤ q .rows) × (q .rows + 1 < 2 ^ 32) ⌝ }
     ensures { λ a. ⌜ RowAnswer a q (kind, x, y) (q .rows - p .rows + 1) (now (out .entry)) (now (out .exit)) ⌝ }
 {
@@ -624,7 +624,7 @@ pub fn put_node(out: &mut [u32], p: Place, q: Place, kind: u32, x: u32, y: u32) 
 }
 
 // Writes the Skip of a loop's expression that has a list.
-pub fn write_skip(
+fn write_skip(
     given_rules: &[u32],
     given_rows: &[u32],
     given_text: &[u8],
@@ -663,7 +663,7 @@ pub fn write_skip(
 }
 
 // Goes down from `root` through rows with one child, as long as none is a loop that has a list.
-pub fn fall(
+fn fall(
     rules: &[u32],
     given: &[u8],
     marks: &[u32],
@@ -713,7 +713,7 @@ pub fn fall(
 }
 
 // Writes the rows after `base` up to `root` over the tree that stands from p to q, with its sizes.
-pub fn rise(rows: &[u32], base: usize, root: usize, out: &mut [u32], p: Place, q: Place) -> Wrote
+fn rise(rows: &[u32], base: usize, root: usize, out: &mut [u32], p: Place, q: Place) -> Wrote
     requires { ⌜ Rising (now rows) base root p q (now out) ⌝ }
     ensures { λ a. ⌜ ((us : List Un) (r : Expr Span) → At (now (rows .entry)) root (wrap us r) → base + length us ≡ root → RisenAnswer a q p us (now (out .entry)) (now (out .exit))) ⌝ }
 {
@@ -752,7 +752,7 @@ pub fn rise(rows: &[u32], base: usize, root: usize, out: &mut [u32], p: Place, q
 }
 
 // Writes the Skip of the loop's expression e, and over it the rows after `base` up to `root`.
-pub fn skip_loop(
+fn skip_loop(
     given_rules: &[u32],
     given_rows: &[u32],
     given_text: &[u8],
@@ -791,7 +791,7 @@ pub fn skip_loop(
 }
 
 // Step 2 at a row with two children, and over it the rows after `base` up to `root`.
-pub fn skip_fork(
+fn skip_fork(
     given_rules: &[u32],
     given_rows: &[u32],
     given_text: &[u8],
@@ -860,7 +860,7 @@ pub fn skip_fork(
 
 // Step 2 from the top of a subtree, as it stands after step 1, with lists looked up in the table as it was given.
 // Rows with one child take a loop down and a loop up, not a call each: a run of them takes no stack.
-pub fn skip_tree(
+fn skip_tree(
     given_rules: &[u32],
     given_rows: &[u32],
     given_text: &[u8],
@@ -912,7 +912,7 @@ pub fn skip_tree(
 }
 
 // Whether some row of the subtree of row `root` is a Rep of a Seq, as each loop is that step 2 rewrites.
-pub fn may_skip(rows: &[u32], root: usize) -> bool
+fn may_skip(rows: &[u32], root: usize) -> bool
     requires { ⌜ Stands (now rows) root ⌝ }
     ensures { λ b. ⌜ (b ≡ false → (t : Table Bytes) (s : Bytes) (r : Expr Span) → At (now (rows .entry)) root r → topDown (orSame (skip? t)) (resolve s r) ≡ resolve s r) ⌝ }
 {
@@ -938,7 +938,7 @@ pub fn may_skip(rows: &[u32], root: usize) -> bool
 }
 
 // Step 2 of a subtree: most have no Rep of a Seq, and a copy is cheaper than a walk.
-pub fn skip_all(
+fn skip_all(
     given_rules: &[u32],
     given_rows: &[u32],
     given_text: &[u8],
