@@ -9,3 +9,4 @@ pub mod Tables
 pub mod Spelling
 pub mod Skipping
 pub mod Quiets
+pub mod Falls

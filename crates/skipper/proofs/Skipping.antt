@@ -26,7 +26,7 @@ use Rattle.writing.specs.declared.Place.{Place}
 use Rattle.writing.specs.declared.Wrote.{Wrote}
 use Rattle.writing.specs.declared.Wrote.the-variants.{Done, Full}
 use Rattle.writing.proofs.Puts.{put-done, put-full}
-use Rattle.writing.proofs.Trees.{done-written, full-not, written-room, un-tree, bin-tree, fits-un, fits-left, fits-right, skip-tree, fits-strs}
+use Rattle.writing.proofs.Trees.{done-written, full-not, written-room, bin-tree, fits-left, fits-right, skip-tree, fits-strs}
 use Rattle.skipper.specs.Memory.{markOf, nameList, byMarks, Known}
 use Rattle.skipper.specs.Lends.{marksOf, Lent}
 use Rattle.skipper.specs.Lists.{unreadIn, unreadAt, Lists}
@@ -156,7 +156,7 @@ leaf-node : {w : List ℕ} {i : ℕ} (r : Expr Span) → At w i r → nodeOf (he
 unfolding nodeOf
 leaf-node r a = ap nodeBy (shape-in r)
 
-no-child : (t : Table Bytes) (s : Bytes) (r : Expr Span) → nodeBy (shapeIn r) ≡ Leaf → skipped t (resolve s r) ≡ resolve s r
+pub no-child : (t : Table Bytes) (s : Bytes) (r : Expr Span) → nodeBy (shapeIn r) ≡ Leaf → skipped t (resolve s r) ≡ resolve s r
 unfolding loopOver
 no-child t s (lit k p) h = skip-stays t (resolve s (lit k p)) (skip-none t (resolve s (lit k p)) refl)
 no-child t s (fixed f) h = skip-stays t (fixed f) (skip-none t (fixed f) refl)
@@ -218,17 +218,6 @@ pub record NodeRoom (p q : Place) : Type 0 where
 
 pub node-room : {z : Wrote} {q : Place} (p : Place) (e : E) (o o₁ b b₁ : List ℕ) → z ≡ Done q → Answer z p e o o₁ b b₁ → Areas o b → NodeRoom p q
 node-room p e o o₁ b b₁ d h a = let w = done-written p e o o₁ b b₁ d h in record { least = omega (arith, w .rows); most = omega (arith, w .rows, w .fits .rows, a .words) }
-
--- one child
-module _ {z : Wrote} (p : Place) (v c : E) {u : Rattle.grammar.specs.Tree.Un} (o o₁ b b₁ : List ℕ) (g : v ≡ un u c) (h : Answer z p c o o₁ b b₁) where
-  pub one-done : {q : Place} (a : Wrote) (k : Rattle.grammar.specs.Tree.Head) (o₂ : List ℕ) → k ≡ Rattle.grammar.specs.Tree.unHead u → z ≡ Done q → RowAnswer a q k (q .rows - p .rows + 1) o₁ o₂ → Answer a p v o o₂ b b₁
-  one-done {q} a k o₂ e d r =
-      let w = done-written p c o o₁ b b₁ d h in
-      let n : q .rows - p .rows + 1 ≡ size c + 1 = omega (arith, w .rows) in
-      rw g (un-tree w a u k (q .rows - p .rows + 1) o₂ e n r)
-
-  pub one-full : z ≡ Full → Fits p v o b → ⊥
-  one-full d f = full-not p c o o₁ b b₁ d h (fits-un (rw g at f))
 
 -- two children
 module _ {z : Wrote} (p : Place) (v c e : E) {u : Rattle.grammar.specs.Tree.Bin} (o o₁ b b₁ : List ℕ) (g : v ≡ bin u c e) (h : Answer z p c o o₁ b b₁) where

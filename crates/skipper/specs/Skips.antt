@@ -3,21 +3,29 @@ use mathlib.Core.Path.{_≡_}
 use mathlib.Core.Bool.{Bool, true, false}
 use mathlib.Core.List.{List}
 use mathlib.Core.Option.{Option, none, some}
-use Prim.Native.Nat.{ℕ}
+use Prim.Native.Nat.{ℕ, _+_, _/_, _^_, _≤_, _<_}
+use lib.ListN.{length}
 use Rattle.grammar.specs.Basic.{Bytes}
-use Rattle.grammar.specs.Tree.{Expr, E, anyNode}
+use Rattle.grammar.specs.Tree.{Un, Expr, E, anyNode}
 use Rattle.grammar.specs.Rows.{Span}
 use Rattle.grammar.specs.Text.{resolve}
 use Rattle.grammar.specs.Table.{Table, resolveTable}
 use Rattle.grammar.specs.Lists.{Reading, nothing, strings, again, readIn, readName, loopOver, skipList}
+use Rattle.grammar.specs.Steps.{topDown, orSame, skip?}
 use Rattle.rows.specs.declared.Shape.{Shape}
 use Rattle.rows.specs.declared.Shape.the-variants.{Lit, Num, One, Two, Skips}
-use Rattle.rows.specs.Rows.{At, shapeOf}
+use Rattle.rows.specs.Rows.{At, shapeOf, kindAt}
+use Rattle.writing.specs.declared.Place.{Place}
+use Rattle.writing.specs.declared.Wrote.{Wrote}
+use Rattle.writing.specs.Writes.{Written, Answer}
+use Rattle.chains.specs.Runs.{wrap}
 use Rattle.skipper.specs.Memory.{Known, byMarks}
 use Rattle.skipper.specs.Lends.{marksOf, Lent}
 use Rattle.skipper.specs.Lists.{unreadAt}
 use Rattle.skipper.specs.declared.Loop.{Loop}
 use Rattle.skipper.specs.declared.Loop.the-variants.{Over, Nothing}
+use Rattle.skipper.specs.declared.Fallen.{Fallen}
+use Rattle.skipper.specs.declared.Fallen.the-variants.{Plain, Looped, Forked}
 use Rattle.skipper.specs.declared.Node as node
 use Rattle.skipper.specs.declared.Node.the-variants as node-is
 
@@ -85,3 +93,41 @@ pub record Settling (rules rows : List ℕ) (u : Bytes) (m w : List ℕ) (s : By
   pub tree : Expr Span
   pub at : At w i tree
   pub settles : Settles (resolveTable u table) m (resolve s tree)
+
+-- the tree r at row `root` is a run of nodes with one child, none of which step 2 rewrites, over a tree at row `base`; the marks m settle its loops
+pub record Fell (t : Table Bytes) (m w : List ℕ) (s : Bytes) (root base : ℕ) (r : Expr Span) : Type 0 where
+  pub nodes : List Un
+  pub tree : Expr Span
+  pub at : At w base tree
+  pub is : r ≡ wrap nodes tree
+  pub count : base + length nodes ≡ root
+  pub settles : Settles t m (resolve s tree)
+  pub skips : topDown (orSame (skip? t)) (resolve s r) ≡ wrap nodes (topDown (orSame (skip? t)) (resolve s tree))
+
+-- that tree is a loop over row i, which has a list
+pub record FellLoop (t : Table Bytes) (m w : List ℕ) (s : Bytes) (root base i : ℕ) (r : Expr Span) : Type 0 where
+  pub fell : Fell t m w s root base r
+  pub list : ListAt i w s (byMarks (marksOf t m)) (resolve s (fell .tree))
+
+-- it has two children, and k is its kind
+pub record FellFork (t : Table Bytes) (m w : List ℕ) (s : Bytes) (root base k : ℕ) (r : Expr Span) : Type 0 where
+  pub fell : Fell t m w s root base r
+  pub kind : k ≡ kindAt w base
+  pub two : nodeOf k ≡ node-is.Pair
+
+abbrev pub FallAnswer : Fallen → Table Bytes → (m w : List ℕ) → Bytes → ℕ → Expr Span → Type 0
+FallAnswer Plain t m w s root r = topDown (orSame (skip? t)) (resolve s r) ≡ resolve s r
+FallAnswer (Looped base i) t m w s root r = FellLoop t m w s root base i r
+FallAnswer (Forked base k) t m w s root r = FellFork t m w s root base k r
+
+-- the rows after `base` up to `root` can be read, and q lies after p in the area o, whose counts are words
+pub record Rising (w : List ℕ) (base root : ℕ) (p q : Place) (o : List ℕ) : Type 0 where
+  pub order : base ≤ root
+  pub inside : root < length w / 4
+  pub after : p .rows ≤ q .rows
+  pub room : q .rows ≤ length o / 4
+  pub words : length o < 2 ^ 32
+
+-- whatever tree stands from p to q, the nodes us stand over it where they fit, and the answer is full where they do not
+abbrev pub RisenAnswer : Wrote → (q p : Place) → List Un → (o₁ o₂ : List ℕ) → Type 0
+RisenAnswer a q p us o₁ o₂ = (e : E) (o t t₁ : List ℕ) → Written q p e o o₁ t t₁ → Answer a p (wrap us e) o o₂ t t₁

@@ -7,7 +7,7 @@ ghost use Prim.Native.Nat.{ℕ, _+_, _-_, _*_, _/_, _^_, _≤_, _<_};
 ghost use mathlib.Core.Option.{some};
 ghost use lib.ListN.{length, getD, getElem?};
 ghost use Rattle.grammar.specs.Basic.{Bytes, any};
-ghost use Rattle.grammar.specs.Tree.{Expr, Rep, un, skip, anyNode, asNegPred};
+ghost use Rattle.grammar.specs.Tree.{Expr, Un, Rep, un, skip, anyNode, asNegPred};
 ghost use Rattle.grammar.specs.Rows.{Span};
 ghost use Rattle.grammar.specs.Text.{bytesAt, resolve};
 ghost use Rattle.grammar.specs.Table.{Table, Rule, ruleWords, resolveRule, resolveTable};
@@ -16,12 +16,13 @@ ghost use Rattle.grammar.specs.Steps.{rotate, isAtomic, topDown, orSame, skip?,
 ghost use Rattle.rows.specs.Rows.{Inside, At, Stands, kindAt};
 ghost use Rattle.writing.specs.Writes.{Room, RowAnswer, StrsAnswer, Answer};
 ghost use Rattle.names.specs.Names.{First, Hashed, marked};
+ghost use Rattle.chains.specs.Runs.{wrap};
 ghost use Rattle.skipper.specs.Memory.{byMarks};
 ghost use Rattle.skipper.specs.Lends.{marksOf, Given, Lent, Ran, ReadsOf};
 ghost use Rattle.skipper.specs.Loops.{LoopAnswer, TreeRows, openAt, ruleOpen, LoopsOf};
 ghost use Rattle.skipper.specs.Lists.{ListsAnswer};
-ghost use Rattle.skipper.specs.declared.Node.the-variants.{Single, Pair};
-ghost use Rattle.skipper.specs.Skips.{nodeOf, isList, ListAnswer, Spells, Spelled, Skipped, Settles, Settling};
+ghost use Rattle.skipper.specs.declared.Node.the-variants.{Pair};
+ghost use Rattle.skipper.specs.Skips.{nodeOf, isList, ListAnswer, Spells, Spelled, Skipped, Settles, Settling, FallAnswer, Rising, RisenAnswer};
 use names::Found;
 use rows::Lookup;
 use rows::Shape;
@@ -36,7 +37,7 @@ const NONE: u32 = 2;
 const LIST: u32 = 3;
 
 // Where the expression of a loop stands.
-pub enum Loop {
+enum Loop {
     Over(usize),
     Nothing,
 }
@@ -48,14 +49,21 @@ pub enum Readings {
 }
 
 // How a walk from the top goes on: with no child, with one, with two.
-pub enum Node {
+enum Node {
     Leaf,
     Single,
     Pair,
 }
 
+// Where a way down through rows with one child ends: with nothing to skip, at a loop over row e that has a list, at a row with two children.
+enum Fallen {
+    Plain,
+    Looped { base: usize, e: usize },
+    Forked { base: usize, kind: u32 },
+}
+
 // Reads rule i, which was not read.
-pub fn read_rule(rules: &[u32], rows: &[u32], text: &[u8], marks: &mut [u32], i: usize) -> u32
+fn read_rule(rules: &[u32], rows: &[u32], text: &[u8], marks: &mut [u32], i: usize) -> u32
     requires { ⌜ Given (now rules) (now rows) (now text) (now marks) ⌝ }
     requires { ⌜ i < length (now rules) / 4 ⌝ }
     requires { ⌜ getD (now marks) (i * 4 + 1) 0 ≡ 0 ⌝ }
@@ -71,7 +79,7 @@ pub fn read_rule(rules: &[u32], rows: &[u32], text: &[u8], marks: &mut [u32], i:
 }
 
 // Reads a literal: what a Choice has on its left must be Str or Ident.
-pub fn read_leaf(rules: &[u32], rows: &[u32], text: &[u8], marks: &mut [u32], root: usize) -> u32
+fn read_leaf(rules: &[u32], rows: &[u32], text: &[u8], marks: &mut [u32], root: usize) -> u32
     requires { ⌜ Given (now rules) (now rows) (now text) (now marks) ⌝ }
     requires { ⌜ Stands (now rows) root ⌝ }
     ensures { λ a. ⌜ Ran (now (marks .entry)) (now (marks .exit)) a ⌝ }
@@ -103,7 +111,7 @@ pub fn read_leaf(rules: &[u32], rows: &[u32], text: &[u8], marks: &mut [u32], ro
 }
 
 // Reads a rule's expression: of a Choice the left side, then the right.
-pub fn read_in(rules: &[u32], rows: &[u32], text: &[u8], marks: &mut [u32], root: usize) -> u32
+fn read_in(rules: &[u32], rows: &[u32], text: &[u8], marks: &mut [u32], root: usize) -> u32
     requires { ⌜ Given (now rules) (now rows) (now text) (now marks) ⌝ }
     requires { ⌜ Stands (now rows) root ⌝ }
     ensures { λ a. ⌜ Ran (now (marks .entry)) (now (marks .exit)) a ⌝ }
@@ -139,7 +147,7 @@ pub fn read_in(rules: &[u32], rows: &[u32], text: &[u8], marks: &mut [u32], root
 }
 
 // Reads the expression of a loop, which counts as rotated: the leaves of its Choice tree from left to right.
-pub fn read_leaves(rules: &[u32], rows: &[u32], text: &[u8], marks: &mut [u32], root: usize) -> u32
+fn read_leaves(rules: &[u32], rows: &[u32], text: &[u8], marks: &mut [u32], root: usize) -> u32
     requires { ⌜ Given (now rules) (now rows) (now text) (now marks) ⌝ }
     requires { ⌜ Stands (now rows) root ⌝ }
     ensures { λ a. ⌜ Ran (now (marks .entry)) (now (marks .exit)) a ⌝ }
@@ -175,7 +183,7 @@ pub fn read_leaves(rules: &[u32], rows: &[u32], text: &[u8], marks: &mut [u32], 
 }
 
 // The row of e where !e ~ ANY stands at `root`.
-pub fn in_loop(rows: &[u32], text: &[u8], root: usize) -> Loop
+fn in_loop(rows: &[u32], text: &[u8], root: usize) -> Loop
     requires { ⌜ Inside (now rows) (length (now text)) ⌝ }
     requires { ⌜ Stands (now rows) root ⌝ }
     ensures { λ a. ⌜ ((r : Expr Span) → At (now (rows .entry)) root r → LoopAnswer a (now (rows .entry)) (now (text .entry)) (loopOver (un Rep (resolve (now (text .entry)) r)))) ⌝ }
@@ -213,7 +221,7 @@ pub fn in_loop(rows: &[u32], text: &[u8], root: usize) -> Loop
 }
 
 // The row of e where !e stands at `root`.
-pub fn after_not(rows: &[u32], root: usize) -> Loop
+fn after_not(rows: &[u32], root: usize) -> Loop
     requires { ⌜ Stands (now rows) root ⌝ }
     ensures { λ a. ⌜ ((s : Bytes) (r : Expr Span) → At (now (rows .entry)) root r → LoopAnswer a (now (rows .entry)) s (asNegPred (resolve s r))) ⌝ }
 {
@@ -233,7 +241,7 @@ pub fn after_not(rows: &[u32], root: usize) -> Loop
 }
 
 // Reads row i if it is a loop (!e ~ ANY)*.
-pub fn read_loop(rules: &[u32], rows: &[u32], text: &[u8], marks: &mut [u32], i: usize) -> u32
+fn read_loop(rules: &[u32], rows: &[u32], text: &[u8], marks: &mut [u32], i: usize) -> u32
     requires { ⌜ Given (now rules) (now rows) (now text) (now marks) ⌝ }
     requires { ⌜ Stands (now rows) i ⌝ }
     ensures { λ a. ⌜ Ran (now (marks .entry)) (now (marks .exit)) a ⌝ }
@@ -258,7 +266,7 @@ pub fn read_loop(rules: &[u32], rows: &[u32], text: &[u8], marks: &mut [u32], i:
 }
 
 // Reads the loops of the rows from `from` to `end`, which are one tree.
-pub fn read_loops(
+fn read_loops(
     rules: &[u32],
     rows: &[u32],
     text: &[u8],
@@ -283,7 +291,7 @@ pub fn read_loops(
 }
 
 // Reads the loops of rule k, if it is Atomic.
-pub fn read_atomic(rules: &[u32], rows: &[u32], text: &[u8], marks: &mut [u32], k: usize) -> u32
+fn read_atomic(rules: &[u32], rows: &[u32], text: &[u8], marks: &mut [u32], k: usize) -> u32
     requires { ⌜ Given (now rules) (now rows) (now text) (now marks) ⌝ }
     requires { ⌜ k < length (now rules) / 4 ⌝ }
     ensures { λ a. ⌜ Ran (now (marks .entry)) (now (marks .exit)) a ⌝ }
@@ -298,7 +306,7 @@ pub fn read_atomic(rules: &[u32], rows: &[u32], text: &[u8], marks: &mut [u32], 
 }
 
 // Reads the loops of all Atomic rules.
-pub fn read_rules(rules: &[u32], rows: &[u32], text: &[u8], marks: &mut [u32]) -> u32
+fn read_rules(rules: &[u32], rows: &[u32], text: &[u8], marks: &mut [u32]) -> u32
     requires { ⌜ Given (now rules) (now rows) (now text) (now marks) ⌝ }
     ensures { λ a. ⌜ Ran (now (marks .entry)) (now (marks .exit)) a ⌝ }
     ensures { λ a. ⌜ ((t : Table Span) → Lent (now (rules .entry)) (now (rows .entry)) t → LoopsOf (now (text .entry)) t (now (marks .entry)) (now (marks .exit)) a (λ look. any (ruleOpen look) (resolveTable (now (text .entry)) t))) ⌝ }
@@ -316,7 +324,7 @@ pub fn read_rules(rules: &[u32], rows: &[u32], text: &[u8], marks: &mut [u32]) -
 }
 
 // Clears the memories of the first `count` rules.
-pub fn forget(marks: &mut [u32], count: usize)
+fn forget(marks: &mut [u32], count: usize)
     requires { ⌜ count * 4 ≤ length (now marks) ⌝ }
     ensures { λ _. ⌜ now (marks .exit) ≡ marked (λ _. 0) 1 count (now (marks .entry)) ⌝ }
 {
@@ -343,7 +351,7 @@ pub fn read_lists(rules: &[u32], rows: &[u32], text: &[u8], marks: &mut [u32]) -
 }
 
 // How a walk goes on at a row of a kind.
-pub fn node_of(kind: u32) -> Node
+fn node_of(kind: u32) -> Node
     ensures { λ r. ⌜ r ≡ nodeOf kind ⌝ }
 {
     match rows::shape_of(kind) {
@@ -356,7 +364,7 @@ pub fn node_of(kind: u32) -> Node
 }
 
 // Whether a literal has a list, by the marks of the table with the text `given`.
-pub fn leaf_listed(
+fn leaf_listed(
     rules: &[u32],
     given: &[u8],
     marks: &[u32],
@@ -391,7 +399,7 @@ pub fn leaf_listed(
 }
 
 // Whether an expression has a list, by the marks.
-pub fn listed(
+fn listed(
     rules: &[u32],
     given: &[u8],
     marks: &[u32],
@@ -434,7 +442,7 @@ pub fn listed(
 }
 
 // The row of e where a loop (!e ~ ANY)* stands at `root` and e has a list.
-pub fn list_at(
+fn list_at(
     rules: &[u32],
     given: &[u8],
     marks: &[u32],
@@ -470,7 +478,7 @@ pub fn list_at(
 }
 
 // Writes the strings of a literal: itself, or those of the rule that it names, through at most `fuel` rules.
-pub fn write_leaf(
+fn write_leaf(
     given_rules: &[u32],
     given_rows: &[u32],
     given_text: &[u8],
@@ -522,7 +530,7 @@ pub fn write_leaf(
 }
 
 // Writes the strings of an expression that has a list, in reading order.
-pub fn write_list(
+fn write_list(
     given_rules: &[u32],
     given_rows: &[u32],
     given_text: &[u8],
@@ -607,7 +615,7 @@ pub fn write_list(
 }
 
 // Writes the root row over what stands from p to q.
-pub fn put_node(out: &mut [u32], p: Place, q: Place, kind: u32, x: u32, y: u32) -> Wrote
+fn put_node(out: &mut [u32], p: Place, q: Place, kind: u32, x: u32, y: u32) -> Wrote
     requires { ⌜ (p .rows ≤ q .rows) × (q .rows + 1 < 2 ^ 32) ⌝ }
     ensures { λ a. ⌜ RowAnswer a q (kind, x, y) (q .rows - p .rows + 1) (now (out .entry)) (now (out .exit)) ⌝ }
 {
@@ -616,7 +624,7 @@ pub fn put_node(out: &mut [u32], p: Place, q: Place, kind: u32, x: u32, y: u32) 
 }
 
 // Writes the Skip of a loop's expression that has a list.
-pub fn write_skip(
+fn write_skip(
     given_rules: &[u32],
     given_rows: &[u32],
     given_text: &[u8],
@@ -654,76 +662,143 @@ pub fn write_skip(
     put_node(out, p, q, 17, n as u32, 0)
 }
 
-// Step 2 at a row with one child.
-pub fn skip_one(
+// Goes down from `root` through rows with one child, as long as none is a loop that has a list.
+fn fall(
+    rules: &[u32],
+    given: &[u8],
+    marks: &[u32],
+    rows: &[u32],
+    text: &[u8],
+    root: usize,
+) -> Fallen
+    requires { ⌜ Hashed (now rules) (now given) (now marks) ⌝ }
+    requires { ⌜ Inside (now rows) (length (now text)) ⌝ }
+    requires { ⌜ Stands (now rows) root ⌝ }
+    ensures { λ a. ⌜ ((t : Table Span) (r : Expr Span) → now (rules .entry) ≡ ruleWords t → At (now (rows .entry)) root r → Settles (resolveTable (now (given .entry)) t) (now (marks .entry)) (resolve (now (text .entry)) r) → FallAnswer a (resolveTable (now (given .entry)) t) (now (marks .entry)) (now (rows .entry)) (now (text .entry)) root r) ⌝ }
+{
+    let mut base = root;
+    while base > 0 {
+        let Lookup::Row {
+            kind,
+            x: _,
+            y: _,
+            size: _,
+        } = rows::row_at(rows, base)
+        else {
+            return Fallen::Plain;
+        };
+        match node_of(kind) {
+            Node::Leaf => {
+                return Fallen::Plain;
+            }
+            Node::Single => {
+                match list_at(rules, given, marks, rows, text, base) {
+                    Loop::Over(e) => {
+                        return Fallen::Looped { base: base, e: e };
+                    }
+                    Loop::Nothing => {
+                        base -= 1;
+                    }
+                }
+            }
+            Node::Pair => {
+                return Fallen::Forked {
+                    base: base,
+                    kind: kind,
+                };
+            }
+        }
+    }
+    Fallen::Plain
+}
+
+// Writes the rows after `base` up to `root` over the tree that stands from p to q, with its sizes.
+fn rise(rows: &[u32], base: usize, root: usize, out: &mut [u32], p: Place, q: Place) -> Wrote
+    requires { ⌜ Rising (now rows) base root p q (now out) ⌝ }
+    ensures { λ a. ⌜ ((us : List Un) (r : Expr Span) → At (now (rows .entry)) root (wrap us r) → base + length us ≡ root → RisenAnswer a q p us (now (out .entry)) (now (out .exit))) ⌝ }
+{
+    let mut at = q.rows;
+    let mut i = base;
+    while i < root {
+        i += 1;
+        let Lookup::Row {
+            kind,
+            x,
+            y,
+            size: _,
+        } = rows::row_at(rows, i)
+        else {
+            return Wrote::Full;
+        };
+        let Wrote::Done(_) = put_node(
+            out,
+            p,
+            Place {
+                rows: at,
+                text: q.text,
+            },
+            kind,
+            x,
+            y,
+        ) else {
+            return Wrote::Full;
+        };
+        at += 1;
+    }
+    Wrote::Done(Place {
+        rows: at,
+        text: q.text,
+    })
+}
+
+// Writes the Skip of the loop's expression e, and over it the rows after `base` up to `root`.
+fn skip_loop(
     given_rules: &[u32],
     given_rows: &[u32],
     given_text: &[u8],
     marks: &[u32],
     rows: &[u32],
     text: &[u8],
+    base: usize,
     root: usize,
+    e: usize,
     out: &mut [u32],
     lits: &mut [u8],
     p: Place,
 ) -> Wrote
     requires { ⌜ Given (now «given_rules») (now «given_rows») (now «given_text») (now marks) ⌝ }
     requires { ⌜ Inside (now rows) (length (now text)) ⌝ }
-    requires { ⌜ Settling (now «given_rules») (now «given_rows») (now «given_text») (now marks) (now rows) (now text) root ⌝ }
-    requires { ⌜ nodeOf (kindAt (now rows) root) ≡ Single ⌝ }
+    requires { ⌜ Skipped (now «given_rules») (now «given_rows») (now «given_text») (now rows) (now text) e ⌝ }
+    requires { ⌜ (base ≤ root) × (root < length (now rows) / 4) ⌝ }
     requires { ⌜ Room p (now out) (now lits) ⌝ }
-    ensures { λ a. ⌜ ((t : Table Span) (r : Expr Span) → Lent (now («given_rules» .entry)) (now («given_rows» .entry)) t → At (now (rows .entry)) root r → Settles (resolveTable (now («given_text» .entry)) t) (now (marks .entry)) (resolve (now (text .entry)) r) → Answer a p (topDown (orSame (skip? (resolveTable (now («given_text» .entry)) t))) (resolve (now (text .entry)) r)) (now (out .entry)) (now (out .exit)) (now (lits .entry)) (now (lits .exit))) ⌝ }
+    ensures { λ a. ⌜ ((t : Table Span) (us : List Un) (c r : Expr Span) (ss : List Bytes) → Lent (now («given_rules» .entry)) (now («given_rows» .entry)) t → At (now (rows .entry)) root (wrap us c) → base + length us ≡ root → At (now (rows .entry)) e r → skipList (resolveTable (now («given_text» .entry)) t) (resolve (now (text .entry)) r) ≡ strings ss → Answer a p (wrap us (skip ss)) (now (out .entry)) (now (out .exit)) (now (lits .entry)) (now (lits .exit))) ⌝ }
 {
-    match list_at(given_rules, given_text, marks, rows, text, root) {
-        Loop::Over(e) => write_skip(
-            given_rules,
-            given_rows,
-            given_text,
-            marks,
-            rows,
-            text,
-            e,
-            out,
-            lits,
-            p,
-        ),
-        Loop::Nothing => {
-            let Lookup::Row {
-                kind,
-                x,
-                y,
-                size: _,
-            } = rows::row_at(rows, root)
-            else {
-                return Wrote::Full;
-            };
-            let Wrote::Done(q) = skip_tree(
-                given_rules,
-                given_rows,
-                given_text,
-                marks,
-                rows,
-                text,
-                root - 1,
-                out,
-                lits,
-                p,
-            ) else {
-                return Wrote::Full;
-            };
-            put_node(out, p, q, kind, x, y)
-        }
-    }
+    let Wrote::Done(q) = write_skip(
+        given_rules,
+        given_rows,
+        given_text,
+        marks,
+        rows,
+        text,
+        e,
+        out,
+        lits,
+        p,
+    ) else {
+        return Wrote::Full;
+    };
+    rise(rows, base, root, out, p, q)
 }
 
-// Step 2 at a row with two children.
-pub fn skip_two(
+// Step 2 at a row with two children, and over it the rows after `base` up to `root`.
+fn skip_fork(
     given_rules: &[u32],
     given_rows: &[u32],
     given_text: &[u8],
     marks: &[u32],
     rows: &[u32],
     text: &[u8],
+    base: usize,
     root: usize,
     kind: u32,
     out: &mut [u32],
@@ -732,12 +807,13 @@ pub fn skip_two(
 ) -> Wrote
     requires { ⌜ Given (now «given_rules») (now «given_rows») (now «given_text») (now marks) ⌝ }
     requires { ⌜ Inside (now rows) (length (now text)) ⌝ }
-    requires { ⌜ Settling (now «given_rules») (now «given_rows») (now «given_text») (now marks) (now rows) (now text) root ⌝ }
-    requires { ⌜ (kind ≡ kindAt (now rows) root) × (nodeOf kind ≡ Pair) ⌝ }
+    requires { ⌜ Settling (now «given_rules») (now «given_rows») (now «given_text») (now marks) (now rows) (now text) base ⌝ }
+    requires { ⌜ (kind ≡ kindAt (now rows) base) × (nodeOf kind ≡ Pair) ⌝ }
+    requires { ⌜ (base ≤ root) × (root < length (now rows) / 4) ⌝ }
     requires { ⌜ Room p (now out) (now lits) ⌝ }
-    ensures { λ a. ⌜ ((t : Table Span) (r : Expr Span) → Lent (now («given_rules» .entry)) (now («given_rows» .entry)) t → At (now (rows .entry)) root r → Settles (resolveTable (now («given_text» .entry)) t) (now (marks .entry)) (resolve (now (text .entry)) r) → Answer a p (topDown (orSame (skip? (resolveTable (now («given_text» .entry)) t))) (resolve (now (text .entry)) r)) (now (out .entry)) (now (out .exit)) (now (lits .entry)) (now (lits .exit))) ⌝ }
+    ensures { λ a. ⌜ ((t : Table Span) (us : List Un) (r : Expr Span) → Lent (now («given_rules» .entry)) (now («given_rows» .entry)) t → At (now (rows .entry)) base r → Settles (resolveTable (now («given_text» .entry)) t) (now (marks .entry)) (resolve (now (text .entry)) r) → At (now (rows .entry)) root (wrap us r) → base + length us ≡ root → Answer a p (wrap us (topDown (orSame (skip? (resolveTable (now («given_text» .entry)) t))) (resolve (now (text .entry)) r))) (now (out .entry)) (now (out .exit)) (now (lits .entry)) (now (lits .exit))) ⌝ }
 {
-    let right = root - 1;
+    let right = base - 1;
     let Lookup::Row {
         kind: _,
         x: _,
@@ -776,11 +852,15 @@ pub fn skip_two(
     ) else {
         return Wrote::Full;
     };
-    put_node(out, p, s, kind, 0, 0)
+    let Wrote::Done(v) = put_node(out, p, s, kind, 0, 0) else {
+        return Wrote::Full;
+    };
+    rise(rows, base, root, out, p, v)
 }
 
 // Step 2 from the top of a subtree, as it stands after step 1, with lists looked up in the table as it was given.
-pub fn skip_tree(
+// Rows with one child take a loop down and a loop up, not a call each: a run of them takes no stack.
+fn skip_tree(
     given_rules: &[u32],
     given_rows: &[u32],
     given_text: &[u8],
@@ -798,36 +878,30 @@ pub fn skip_tree(
     requires { ⌜ Room p (now out) (now lits) ⌝ }
     ensures { λ a. ⌜ ((t : Table Span) (r : Expr Span) → Lent (now («given_rules» .entry)) (now («given_rows» .entry)) t → At (now (rows .entry)) root r → Settles (resolveTable (now («given_text» .entry)) t) (now (marks .entry)) (resolve (now (text .entry)) r) → Answer a p (topDown (orSame (skip? (resolveTable (now («given_text» .entry)) t))) (resolve (now (text .entry)) r)) (now (out .entry)) (now (out .exit)) (now (lits .entry)) (now (lits .exit))) ⌝ }
 {
-    let Lookup::Row {
-        kind,
-        x: _,
-        y: _,
-        size: _,
-    } = rows::row_at(rows, root)
-    else {
-        return Wrote::Full;
-    };
-    match node_of(kind) {
-        Node::Leaf => writing::copy(rows, text, root, out, lits, p),
-        Node::Single => skip_one(
+    match fall(given_rules, given_text, marks, rows, text, root) {
+        Fallen::Plain => writing::copy(rows, text, root, out, lits, p),
+        Fallen::Looped { base, e } => skip_loop(
             given_rules,
             given_rows,
             given_text,
             marks,
             rows,
             text,
+            base,
             root,
+            e,
             out,
             lits,
             p,
         ),
-        Node::Pair => skip_two(
+        Fallen::Forked { base, kind } => skip_fork(
             given_rules,
             given_rows,
             given_text,
             marks,
             rows,
             text,
+            base,
             root,
             kind,
             out,
@@ -838,7 +912,7 @@ pub fn skip_tree(
 }
 
 // Whether some row of the subtree of row `root` is a Rep of a Seq, as each loop is that step 2 rewrites.
-pub fn may_skip(rows: &[u32], root: usize) -> bool
+fn may_skip(rows: &[u32], root: usize) -> bool
     requires { ⌜ Stands (now rows) root ⌝ }
     ensures { λ b. ⌜ (b ≡ false → (t : Table Bytes) (s : Bytes) (r : Expr Span) → At (now (rows .entry)) root r → topDown (orSame (skip? t)) (resolve s r) ≡ resolve s r) ⌝ }
 {
@@ -864,7 +938,7 @@ pub fn may_skip(rows: &[u32], root: usize) -> bool
 }
 
 // Step 2 of a subtree: most have no Rep of a Seq, and a copy is cheaper than a walk.
-pub fn skip_all(
+fn skip_all(
     given_rules: &[u32],
     given_rows: &[u32],
     given_text: &[u8],
