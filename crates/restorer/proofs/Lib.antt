@@ -8,3 +8,4 @@ pub mod Showing
 pub mod Restores
 pub mod Climbs
 pub mod Stills
+pub mod Calms

@@ -1,16 +1,16 @@
 // Restore: whether the stack can change through each rule of a table, and step 7 on a subtree. A rule's memory is word 1 of its mark: 0 not seen, 1 seen in this search, 2 the stack cannot change through it, 3 it can.
 ghost use mathlib.Core.Path.{_≡_};
-ghost use mathlib.Core.Bool.{false, _||_};
+ghost use mathlib.Core.Bool.{true, false, _||_};
 ghost use Prim.Native.Nat.{_+_, _-_, _*_, _/_, _^_, _≤_, _<_};
 ghost use lib.ListN.{length};
 ghost use Rattle.grammar.specs.Tree.{Expr};
 ghost use Rattle.grammar.specs.Rows.{Span};
 ghost use Rattle.grammar.specs.Text.{resolve};
-ghost use Rattle.grammar.specs.Table.{Table, resolveTable};
+ghost use Rattle.grammar.specs.Table.{Table, rowWords, resolveTable};
 ghost use Rattle.grammar.specs.Tree as tree;
-ghost use Rattle.grammar.specs.Basic.{Bytes};
+ghost use Rattle.grammar.specs.Basic.{Bytes, member};
 ghost use Rattle.grammar.specs.Text.{bytesAt};
-ghost use Rattle.grammar.specs.Stack.{changes};
+ghost use Rattle.grammar.specs.Stack.{stackNames, changes};
 ghost use Rattle.grammar.specs.Steps as steps;
 ghost use Rattle.rows.specs.Rows.{Inside, At, Stands, shapeOf, kindAt, xAt, yAt};
 ghost use Rattle.rows.specs.declared.Shape.the-variants.{One, Two};
@@ -202,6 +202,41 @@ pub fn settle(rules: &[u32], rows: &[u32], text: &[u8], marks: &mut [u32])
         settle_rule(rules, rows, text, marks, i);
         i += 1;
     }
+}
+
+// Whether the name of row i, which is an Ident, changes the stack by itself.
+fn name_stirs(rows: &[u32], text: &[u8], i: usize) -> bool
+    requires { ⌜ Inside (now rows) (length (now text)) ⌝ }
+    requires { ⌜ i < length (now rows) / 4 ⌝ }
+    requires { ⌜ kindAt (now rows) i ≡ 3 ⌝ }
+    ensures { λ b. ⌜ b ≡ member (bytesAt (now (text .entry)) (xAt (now (rows .entry)) i, yAt (now (rows .entry)) i)) stackNames ⌝ }
+{
+    let at = i * 4;
+    let x = wide(rows[at + 1]);
+    let n = wide(rows[at + 2]);
+    names::changes_stack(text, x, n)
+}
+
+// Whether no row of a table changes the stack by itself: no Push, no DROP, no POP. Then step 7 changes nothing of it.
+pub fn still(rows: &[u32], text: &[u8]) -> bool
+    requires { ⌜ Inside (now rows) (length (now text)) ⌝ }
+    ensures { λ b. ⌜ (b ≡ true → (t : Table Span) → rowWords t ≡ now (rows .entry) → steps.each (λ _. steps.restore (resolveTable (now (text .entry)) t)) (resolveTable (now (text .entry)) t) ≡ resolveTable (now (text .entry)) t) ⌝ }
+{
+    let count = rows.len() / 4;
+    let mut i = 0;
+    while i < count {
+        let k = rows[i * 4];
+        if k == 18 {
+            return false;
+        }
+        if k == 3 {
+            if name_stirs(rows, text, i) {
+                return false;
+            }
+        }
+        i += 1;
+    }
+    true
 }
 
 // The place after a tree that was written, with whether the stack can change through it; or Full where it does not fit.
