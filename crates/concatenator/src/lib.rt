@@ -113,7 +113,7 @@ fn any_fires(rows: &[u32], root: usize) -> bool
 }
 
 // Whether a rule of a type, with the subtree of row `root`, is changed.
-fn changes(rows: &[u32], root: usize, rule: u32) -> bool
+pub fn changes(rows: &[u32], root: usize, rule: u32) -> bool
     requires { ⌜ Stands (now rows) root ⌝ }
     ensures { λ b. ⌜ (b ≡ true → rule ≡ 2) × (b ≡ false → (t : Bytes) (r : Expr Span) → At (now (rows .entry)) root r → concatenate rule (resolve t r) ≡ resolve t r) ⌝ }
 {

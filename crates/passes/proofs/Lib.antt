@@ -4,3 +4,4 @@ pub mod Progress
 pub mod Growth
 pub mod Loops
 pub mod Walks
+pub mod Calms

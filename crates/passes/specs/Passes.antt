@@ -112,6 +112,11 @@ pub record Holds (t : Table Span) (rs ws : List ℕ) (text : Bytes) : Type 0 whe
   pub inside : Inside ws (length text)
   pub names : (i : ℕ) → i < length rs / 4 → getD rs (i * 4) 0 + getD rs (i * 4 + 1) 0 ≤ length text
 
+-- some table does
+pub record Held (rs ws : List ℕ) (text : Bytes) : Type 0 where
+  pub table : Table Span
+  pub holds : Holds table rs ws text
+
 -- a table of trees over bytes fits three areas
 pub record TableFits (t : Table Bytes) (os o s : List ℕ) : Type 0 where
   pub rules : length t * 4 ≤ length os

@@ -1,5 +1,6 @@
 // One pass over the rules of a table, for every step.
 ghost use mathlib.Core.Path.{_≡_};
+ghost use mathlib.Core.Bool.{true};
 ghost use Prim.Native.Nat.{ℕ, _+_, _*_, _/_, _^_, _≤_, _<_};
 ghost use lib.ListN.{length, getD};
 ghost use Rattle.grammar.specs.Basic.{Bytes};
@@ -10,7 +11,7 @@ ghost use Rattle.grammar.specs.Table.{Table, resolveTable};
 ghost use Rattle.grammar.specs.Steps.{each};
 ghost use Rattle.rows.specs.Rows.{Inside, At, Stands};
 ghost use Rattle.writing.specs.Writes.{Room, Areas};
-ghost use Rattle.passes.specs.Passes.{stepOf, StepAnswer, Lent, Prepared, NameAnswer, RuleReady, RulePrepared, RuleAnswer, Holds, Passing, TableFits, PassAnswer};
+ghost use Rattle.passes.specs.Passes.{stepOf, StepAnswer, Lent, Held, Prepared, NameAnswer, RuleReady, RulePrepared, RuleAnswer, Holds, Passing, TableFits, PassAnswer};
 use rows::wide;
 use writing::Place;
 use writing::Wrote;
@@ -183,4 +184,44 @@ pub fn pass(
         i += 1;
     }
     Wrote::Done(p)
+}
+
+// Whether the rows show that a step leaves the subtree of row `root`, of a rule of that type, as it is.
+fn still(step: u32, kind: u32, rows: &[u32], text: &[u8], root: usize) -> bool
+    requires { ⌜ Inside (now rows) (length (now text)) ⌝ }
+    requires { ⌜ Stands (now rows) root ⌝ }
+    ensures { λ b. ⌜ (b ≡ true → (look : Table Bytes) (r : Expr Span) → At (now (rows .entry)) root r → stepOf step look kind (resolve (now (text .entry)) r) ≡ resolve (now (text .entry)) r) ⌝ }
+{
+    match step {
+        2 => {
+            if kind != 2 {
+                return true;
+            }
+            !skipper::may_skip(rows, root)
+        }
+        3 => !unroller::unrolls(rows, root),
+        4 => !concatenator::changes(rows, root, kind),
+        5 => !factorizer::any_fires(rows, text, root, factorizer::tight_rule(kind)),
+        6 => !lister::any_fires(rows, text, root),
+        _ => false,
+    }
+}
+
+// Whether the rows show that a step leaves every rule of a table as it is: up to the first that they do not show it of.
+pub fn all_still(step: u32, rules: &[u32], rows: &[u32], text: &[u8]) -> bool
+    requires { ⌜ Held (now rules) (now rows) (now text) ⌝ }
+    ensures { λ b. ⌜ (b ≡ true → (look : Table Bytes) (ts : Table Span) → Holds ts (now (rules .entry)) (now (rows .entry)) (now (text .entry)) → each (stepOf step look) (resolveTable (now (text .entry)) ts) ≡ resolveTable (now (text .entry)) ts) ⌝ }
+{
+    let count = rules.len() / 4;
+    let mut end: usize = 0;
+    let mut i: usize = 0;
+    while i < count {
+        let at = i * 4;
+        end += wide(rules[at + 3]);
+        if !still(step, rules[at + 2], rows, text, end - 1) {
+            return false;
+        }
+        i += 1;
+    }
+    true
 }

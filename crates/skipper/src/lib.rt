@@ -912,7 +912,7 @@ fn skip_tree(
 }
 
 // Whether some row of the subtree of row `root` is a Rep of a Seq, as each loop is that step 2 rewrites.
-fn may_skip(rows: &[u32], root: usize) -> bool
+pub fn may_skip(rows: &[u32], root: usize) -> bool
     requires { ⌜ Stands (now rows) root ⌝ }
     ensures { λ b. ⌜ (b ≡ false → (t : Table Bytes) (s : Bytes) (r : Expr Span) → At (now (rows .entry)) root r → topDown (orSame (skip? t)) (resolve s r) ≡ resolve s r) ⌝ }
 {

@@ -285,7 +285,7 @@ fn node(out: &mut [u32], lits: &mut [u8], p: Place, q: Place, kind: u32, x: u32,
 }
 
 // Whether a row of the subtree of row `root` is unrolled.
-fn unrolls(rows: &[u32], root: usize) -> bool
+pub fn unrolls(rows: &[u32], root: usize) -> bool
     requires { ⌜ Stands (now rows) root ⌝ }
     ensures { λ b. ⌜ (b ≡ false → (t : Bytes) (r : Expr Span) → At (now (rows .entry)) root r → unroll (resolve t r) ≡ resolve t r) ⌝ }
 {
