@@ -3,7 +3,7 @@ use mathlib.Core.Path.{_≡_, refl, sym, _∙_, subst}
 use mathlib.Core.Bool.{false≢true, Bool, true, false, _&&_, not, cond}
 use mathlib.Core.List.{List, [], _∷_, _++_}
 use mathlib.Core.Logic.{_⊎_, inl, inr}
-use Prim.Native.Nat.{ℕ, _+_, _-_, _≤_, _<_}
+use Prim.Native.Nat.{ℕ, _+_, _-_, _/_, _≤_, _<_}
 use native.Mathlib.Omega.{arith}
 use lib.ListN.{length}
 use Rattle.grammar.specs.Basic.{Bytes}
@@ -15,11 +15,11 @@ use Rattle.grammar.specs.Stack.{Reaches, down, left, right, changesIn}
 use Rattle.rows.specs.Rows.{At}
 use Rattle.rows.proofs.Laws.{root, size-pos}
 use Rattle.rows.proofs.Views.{at-unique}
-use Rattle.restorer.specs.Search.{loud, Quiet, Right, Searches, Closed, Answers}
+use Rattle.restorer.specs.Search.{stateOf, loud, Quiet, Right, Searches, Closed, Answers, Looks}
 use Rattle.restorer.specs.Lends.{Lent, Ran, TreeRows}
-use Rattle.restorer.specs.Walks.{Run, below, changesAt, Changing, Passing, Visited, GoesOn}
+use Rattle.restorer.specs.Walks.{Run, below, changesAt, Changing, Passing, Visited, GoesOn, Unseen}
 use Rattle.restorer.specs.declared.Step.{Step}
-use Rattle.restorer.specs.declared.Step.the-variants.{Changes, Next}
+use Rattle.restorer.specs.declared.Step.the-variants.{Changes, Next, Into}
 use Rattle.restorer.proofs.Memories.{or-no, stays-quiet, searches-none, searches-then, closed-none, closed-then}
 use Rattle.restorer.proofs.Marks.{ran-none, ran-more}
 
@@ -154,6 +154,10 @@ module _ {s : Bytes} {t : Table Bytes} {m : List ℕ} where
   so-end : {m₁ : List ℕ} {r : Expr Span} → So s t m m₁ r [] → Answers t m m₁ (resolve s r) false
   so-end {m₁} h = record { searches = h .searches; yes = λ e. absurd (false≢true e); quiet = λ _. h .quiet m₁ (searches-none (h .searches .right)) tt; closed = λ _. h .closed }
 
+-- the rule that is to be asked
+pub asked : {k : ℕ} (rules m : List ℕ) (a : Step) → a ≡ Into k → Unseen a rules m → (k < length rules / 4) × (stateOf m k ≡ 0)
+asked rules m a e h = subst (λ (b : Step). Unseen b rules m) e h
+
 -- the rows from i to `end` are searched, which changed the marks m to m′
 pub record Walking (rules rows : List ℕ) (text : Bytes) (m m′ : List ℕ) (from end i : ℕ) : Type 0 where
   pub tree : Expr Span
@@ -185,36 +189,54 @@ module _ {rules rows : List ℕ} {text : Bytes} {m : List ℕ} {from end : ℕ} 
       abbrev pub so-top : (t : Table Span) → Lent t rules rows → Right (resolveTable text t) m → So text (resolveTable text t) m m₁ (inv .tree) (walk-top .tree ∷ walk-top .rest)
       so-top t l h = subst (λ (qs : List (Expr Span)). So text (resolveTable text t) m m₁ (inv .tree) qs) (walk-top .is) (inv .so t l h)
 
+      -- the row before i passes, and what is below it stands up to row j
+      passed : {m₂ : List ℕ} {j : ℕ} → Ran m₁ m₂ → length m₂ ≡ length m₁ → GoesOn (Next j) rows (i - 1) (walk-top .tree) → ((t : Table Span) → Lent t rules rows → Right (resolveTable text t) m₁ → Passing text (resolveTable text t) m₁ m₂ (walk-top .tree)) → Walking rules rows text m m₂ from end j
+      passed {m₂} {j} ran long g passing =
+          let q = walk-top in
+          let n : i - 1 + 1 - size (q .tree) ≡ i - size (q .tree) = omega (arith, q .some) in
+          record {
+            tree = inv .tree;
+            at = inv .at;
+            left = below (q .tree) ++ q .rest;
+            run = run-append rows from (i - size (q .tree)) j (below (q .tree)) (q .rest) (subst (λ (b : ℕ). Run rows b j (below (q .tree))) n (g .1)) (q .run);
+            ran = ran-more (inv .ran) ran;
+            long = long ∙ inv .long;
+            so = λ t l h. so-next (q .tree) (q .rest) (so-top t l h) (passing t l (so-top t l h .searches .right));
+          }
+
+      -- the stack can change at it
+      met : {m₂ : List ℕ} → ((t : Table Span) → Lent t rules rows → Right (resolveTable text t) m₁ → Changing text (resolveTable text t) m₁ m₂ (walk-top .tree)) → (t : Table Span) (r : Expr Span) → Lent t rules rows → At rows (end - 1) r → Right (resolveTable text t) m → Answers (resolveTable text t) m m₂ (resolve text r) true
+      met changing t r l b h =
+          let q = walk-top in
+          let u : inv .tree ≡ r = at-unique (inv .tree) r (inv .at) b in
+          rw (← u) (so-met (q .tree) (q .rest) (so-top t l h) (changing t l (so-top t l h .searches .right)))
+
       -- what the visit of the row before i says
-      module _ {m₂ : List ℕ} {a : Step} (ran : Ran m₁ m₂) (long : length m₂ ≡ length m₁)
+      module _ {a : Step}
           (goes : (r : Expr Span) → At rows (i - 1) r → GoesOn a rows (i - 1) r)
-          (visited : (t : Table Span) (r : Expr Span) → Lent t rules rows → At rows (i - 1) r → Right (resolveTable text t) m₁ → Visited a text (resolveTable text t) m₁ m₂ r) where
-        pub walk-next : {j : ℕ} → a ≡ Next j → Walking rules rows text m m₂ from end j
-        walk-next {j} e =
-            let q = walk-top in
-            let g : (j ≤ i - 1) × Run rows (i - 1 + 1 - size (q .tree)) j (below (q .tree)) = subst (λ (z : Step). GoesOn z rows (i - 1) (q .tree)) e (goes (q .tree) (q .at)) in
-            let n : i - 1 + 1 - size (q .tree) ≡ i - size (q .tree) = omega (arith, q .some) in
-            record {
-              tree = inv .tree;
-              at = inv .at;
-              left = below (q .tree) ++ q .rest;
-              run = run-append rows from (i - size (q .tree)) j (below (q .tree)) (q .rest) (subst (λ (b : ℕ). Run rows b j (below (q .tree))) n (g .1)) (q .run);
-              ran = ran-more (inv .ran) ran;
-              long = long ∙ inv .long;
-              so = λ t l h. so-next (q .tree) (q .rest) (so-top t l h) (subst (λ (z : Step). Visited z text (resolveTable text t) m₁ m₂ (q .tree)) e (visited t (q .tree) l (q .at) (so-top t l h .searches .right)));
-            }
+          (visited : (t : Table Span) (r : Expr Span) → Lent t rules rows → At rows (i - 1) r → Right (resolveTable text t) m₁ → Visited a text (resolveTable text t) m₁ r) where
+        onward : {b : Step} → a ≡ b → GoesOn b rows (i - 1) (walk-top .tree)
+        onward e = let q = walk-top in subst (λ (z : Step). GoesOn z rows (i - 1) (q .tree)) e (goes (q .tree) (q .at))
+
+        said : {b : Step} → a ≡ b → (t : Table Span) → Lent t rules rows → Right (resolveTable text t) m₁ → Visited b text (resolveTable text t) m₁ (walk-top .tree)
+        said e t l h = let q = walk-top in subst (λ (z : Step). Visited z text (resolveTable text t) m₁ (q .tree)) e (visited t (q .tree) l (q .at) h)
+
+        pub walk-next : {j : ℕ} → a ≡ Next j → Walking rules rows text m m₁ from end j
+        walk-next e = passed (ran-none m₁) refl (onward e) (said e)
 
         pub walk-less : {j : ℕ} → a ≡ Next j → j < i
-        walk-less {j} e =
-            let q = walk-top in
-            let g : (j ≤ i - 1) × Run rows (i - 1 + 1 - size (q .tree)) j (below (q .tree)) = subst (λ (z : Step). GoesOn z rows (i - 1) (q .tree)) e (goes (q .tree) (q .at)) in
-            omega (arith, q .some)
+        walk-less e = omega (arith, walk-top .some, onward e .0)
 
-        pub walk-met : a ≡ Changes → (t : Table Span) (r : Expr Span) → Lent t rules rows → At rows (end - 1) r → Right (resolveTable text t) m → Answers (resolveTable text t) m m₂ (resolve text r) true
-        walk-met e t r l b h =
-            let q = walk-top in
-            let u : inv .tree ≡ r = at-unique (inv .tree) r (inv .at) b in
-            rw (← u) (so-met (q .tree) (q .rest) (so-top t l h) (subst (λ (z : Step). Visited z text (resolveTable text t) m₁ m₂ (q .tree)) e (visited t (q .tree) l (q .at) (so-top t l h .searches .right))))
+        pub walk-met : a ≡ Changes → (t : Table Span) (r : Expr Span) → Lent t rules rows → At rows (end - 1) r → Right (resolveTable text t) m → Answers (resolveTable text t) m m₁ (resolve text r) true
+        walk-met e = met (said e)
+
+        -- and the rule that it asks
+        module _ {m₂ : List ℕ} {k : ℕ} {v : Bool} (e : a ≡ Into k) (looks : (t : Table Span) → Lent t rules rows → Right (resolveTable text t) m₁ → Looks (resolveTable text t) m₁ m₂ k v) where
+          pub walk-past : Ran m₁ m₂ → length m₂ ≡ length m₁ → v ≡ false → Walking rules rows text m m₂ from end (i - 1)
+          walk-past ran long f = passed ran long (onward e) (λ t l h. said e t l h .no m₂ (rw f at (looks t l h)))
+
+          pub walk-told : v ≡ true → (t : Table Span) (r : Expr Span) → Lent t rules rows → At rows (end - 1) r → Right (resolveTable text t) m → Answers (resolveTable text t) m m₂ (resolve text r) true
+          walk-told f = met (λ t l h. said e t l h .yes m₂ (rw f at (looks t l h)))
 
     pub walk-end : i ≤ from → (t : Table Span) (r : Expr Span) → Lent t rules rows → At rows (end - 1) r → Right (resolveTable text t) m → Answers (resolveTable text t) m m₁ (resolve text r) false
     walk-end le t r l b h =

@@ -1,17 +1,19 @@
 -- The visit of a row: a row that is no Ident by its kind, an Ident by its name and its rule. Assumes nothing.
 use mathlib.Core.Path.{_≡_, refl, sym, ap, _∙_}
-use mathlib.Core.Bool.{Bool, true, false, not}
+use mathlib.Core.Bool.{false≢true, Bool, true, false, not}
 use mathlib.Core.List.{List, [], _∷_}
 use Prim.Native.Nat.{ℕ, _+_, _-_, _/_, _≤_, _<_}
 use native.Mathlib.Omega.{arith}
 use lib.ListN.{length}
+use lib.Dec.{eqb}
 use Rattle.grammar.specs.Basic.{Bytes, member}
 use Rattle.grammar.specs.Tree.{Str, Insens, Ident, Range, PeekSlice, PeekFrom, Un, PosPred, NegPred, Opt, Rep, RepOnce, Push, RestoreOnErr, RepExact, RepMin, RepMax, RepMinMax, Bin, Seq, Choice, Expr, lit, fixed, skip, un, bin, unHead, size}
 use Rattle.grammar.specs.Rows.{Span}
 use Rattle.grammar.specs.Text.{bytesAt, resolve}
 use Rattle.grammar.specs.Table.{Table, resolveRule, resolveTable}
 use Rattle.grammar.specs.Stack.{stackNames, at-push, at-name, through}
-use Rattle.rows.specs.Rows.{At}
+use Rattle.grammar.proofs.Logic.{eqb-eq, eqb-self}
+use Rattle.rows.specs.Rows.{kindAt, xAt, yAt, sizeAt, At}
 use Rattle.rows.proofs.Laws.{headOf, Found, root, found-size, at-un, at-left, at-right, size-pos}
 use Rattle.rows.proofs.Cells.{lit-shape}
 use Rattle.rows.proofs.Views.{as-lit, lit-is}
@@ -21,9 +23,11 @@ use Rattle.names.specs.declared.Found.the-variants.{At as Sited, Nothing}
 use Rattle.names.proofs.Finding.{Looked, looked, not-found, name-is}
 use Rattle.restorer.specs.Search.{stateOf, memoryOf, isQuiet, loud, Right, Looks}
 use Rattle.restorer.specs.Lends.{Lent}
-use Rattle.restorer.specs.Walks.{Run, below, changesAt, stepFrom, Changing, Passing, Visited, GoesOn}
+use Rattle.restorer.specs.Walks.{Run, below, changesAt, pick, stepFrom, recalled, Changing, Passing, Visited, GoesOn, Unseen}
 use Rattle.restorer.specs.declared.Step.{Step}
+use Rattle.restorer.specs.declared.Step.the-variants.{Changes, Next, Into}
 use Rattle.restorer.proofs.Memories.{or-no, quiet-at, memory-none, memory-first, rule-resolved, searches-none, closed-none}
+use Rattle.restorer.proofs.Settles.{look-yes, look-no}
 
 -- ---- a row that is no Ident
 
@@ -66,7 +70,7 @@ module _ (s : Bytes) (t : Table Bytes) (m : List ℕ) (h : Right t m) where
   passes : (r : Expr Span) → changesAt (loud t m) (resolve s r) ≡ false → Passing s t m m r
   passes r e = record { searches = searches-none h; closed = closed-none t m; quiet = e }
 
-  un-visits : (i : ℕ) (u : Un) (e : Expr Span) → Visited (stepFrom (unHead u .0) i (size e + 1)) s t m m (un u e)
+  un-visits : (i : ℕ) (u : Un) (e : Expr Span) → Visited (stepFrom (unHead u .0) i (size e + 1)) s t m (un u e)
   unfolding stepFrom
   un-visits i PosPred e = passes (un PosPred e) refl
   un-visits i NegPred e = passes (un NegPred e) refl
@@ -80,7 +84,7 @@ module _ (s : Bytes) (t : Table Bytes) (m : List ℕ) (h : Right t m) where
   un-visits i Push e = record { searches = searches-none h; reaches = at-push }
   un-visits i RestoreOnErr e = passes (un RestoreOnErr e) refl
 
-  visits : (i : ℕ) (r : Expr Span) → (headOf r .0 ≡ 3 → ⊥) → Visited (stepFrom (headOf r .0) i (size r)) s t m m r
+  visits : (i : ℕ) (r : Expr Span) → (headOf r .0 ≡ 3 → ⊥) → Visited (stepFrom (headOf r .0) i (size r)) s t m r
   unfolding stepFrom
   visits i (lit Str p) n = passes (lit Str p) refl
   visits i (lit Insens p) n = passes (lit Insens p) refl
@@ -92,6 +96,10 @@ module _ (s : Bytes) (t : Table Bytes) (m : List ℕ) (h : Right t m) where
   visits i (un u e) n = un-visits i u e
   visits i (bin Seq e f) n = passes (bin Seq e f) refl
   visits i (bin Choice e f) n = passes (bin Choice e f) refl
+
+-- the words of row i
+pub words-at : (w : List ℕ) (i : ℕ) → i < length w / 4 → Found w i (kindAt w i) (xAt w i) (yAt w i) (sizeAt w i)
+words-at w i h = record { within = h; kind = refl; x = refl; y = refl; rows = refl }
 
 -- the step from a row that was read
 module _ {w : List ℕ} {i k x y n v : ℕ} {a : Step} (f : Found w i k x y n) (z : k ≡ 3 → ⊥) (e : a ≡ stepFrom k i v) (g : v ≡ n) where
@@ -107,10 +115,37 @@ module _ {w : List ℕ} {i k x y n v : ℕ} {a : Step} (f : Found w i k x y n) (
   pub row-goes : (r : Expr Span) → At w i r → GoesOn a w i r
   row-goes r b = rw (step-is b) (goes-on w i r b (not-ident b))
 
-  pub row-visited : (s : Bytes) (t : Table Bytes) (m : List ℕ) (r : Expr Span) → At w i r → Right t m → Visited a s t m m r
+  pub row-visited : (s : Bytes) (t : Table Bytes) (m : List ℕ) (r : Expr Span) → At w i r → Right t m → Visited a s t m r
   row-visited s t m r b h = rw (step-is b) (visits s t m h i r (not-ident b))
 
+  pub row-unseen : (rules m : List ℕ) → Unseen a rules m
+  unfolding stepFrom
+  row-unseen rules m = rw e (go (eqb k 18) (eqb k 17) (eqb k 19))
+    where
+      go : (p q o : Bool) → Unseen (pick p Changes (pick q (Next (i + 1 - v)) (pick o (Next (i + 1 - v)) (Next i)))) rules m
+      go true q o = tt
+      go false true o = tt
+      go false false true = tt
+      go false false false = tt
+
 -- ---- an Ident
+
+-- the memory of the rule that is named, by cases
+module _ (P : Step → Type 0) (s k i : ℕ) where
+  recalled-case : (s ≡ 3 → P Changes) → (s ≡ 0 → P (Into k)) → ((s ≡ 3 → ⊥) → (s ≡ 0 → ⊥) → P (Next i)) → (a : Step) → a ≡ recalled s k i → P a
+  unfolding recalled
+  recalled-case x y z a e = rw e (go (eqb s 3) (eqb s 0) refl refl)
+    where
+      no : (n : ℕ) → eqb s n ≡ false → s ≡ n → ⊥
+      no n h q = false≢true (sym h ∙ ap (λ (j : ℕ). eqb j n) q ∙ eqb-self n)
+
+      go : (b c : Bool) → eqb s 3 ≡ b → eqb s 0 ≡ c → P (pick b Changes (pick c (Into k) (Next i)))
+      go true c p q = x (eqb-eq s 3 p)
+      go false true p q = y (eqb-eq s 0 q)
+      go false false p q = z (no 3 p) (no 0 q)
+
+pub asks-unseen : (i k : ℕ) (rules m : List ℕ) (a : Step) → k < length rules / 4 → a ≡ recalled (stateOf m k) k i → Unseen a rules m
+asks-unseen i k rules m a h = recalled-case (λ b. Unseen b rules m) (stateOf m k) k i (λ _. tt) (λ z. (h, z)) (λ _ _. tt) a
 
 pub finds-below : {j : ℕ} (n : ℕ) (rules : List ℕ) (s key : Bytes) (found : Found′) → Finds n rules s key found → found ≡ Sited j → j < n
 finds-below {j} n rules s key found h e = let f : First n rules s key j = rw e at h in f .below
@@ -121,6 +156,9 @@ module _ {w : List ℕ} {i k x y n : ℕ} (f : Found w i k x y n) (z : k ≡ 3) 
 
   pub ident-goes : (r : Expr Span) → At w i r → (i ≤ i) × Run w (i + 1 - size r) i (below r)
   ident-goes r b = rw (ident-is r b) (omega arith, omega arith)
+
+  pub asks-goes : (v j : ℕ) (a : Step) → a ≡ recalled v j i → (r : Expr Span) → At w i r → GoesOn a w i r
+  asks-goes v j a e r b = recalled-case (λ o. GoesOn o w i r) v j i (λ _. tt) (λ _. ident-goes r b) (λ _ _. ident-goes r b) a e
 
   -- a name that changes the stack
   pub stack-name : {p q : ℕ} (s : Bytes) (t : Table Bytes) (m : List ℕ) (c : Bool) (r : Expr Span) → p ≡ x → q ≡ y → c ≡ member (bytesAt s (p, q)) stackNames → c ≡ true → At w i r → Right t m → Changing s t m m r
@@ -156,7 +194,7 @@ module _ {w : List ℕ} {i k x y n : ℕ} (f : Found w i k x y n) (z : k ≡ 3) 
       memory m′ = memory-first s (bytesAt s (x, y)) m′ t j (rule .rule) (rule .is) (rule .same) (λ k u l v e. first .first k l (ap (λ (ws : List ℕ). nameOf ws s k) (sym (lent .heads)) ∙ name-is s t k u v ∙ e))
 
       module _ {m′ : List ℕ} {v : Bool} (a : Looks (resolveTable s t) m m′ j v) where
-        pub ident-changes : v ≡ true → Changing s (resolveTable s t) m m′ r
+        ident-changes : v ≡ true → Changing s (resolveTable s t) m m′ r
         ident-changes u =
             rw (ident-is r b)
             (record {
@@ -164,7 +202,7 @@ module _ {w : List ℕ} {i k x y n : ℕ} (f : Found w i k x y n) (z : k ≡ 3) 
               reaches = through (rule .finds) (a .searches .right .yes j (resolveRule s (rule .rule)) (rule-resolved s t j (rule .rule) (rule .is)) (a .yes u));
             })
 
-        pub ident-passes : v ≡ false → Passing s (resolveTable s t) m m′ r
+        ident-passes : v ≡ false → Passing s (resolveTable s t) m m′ r
         ident-passes u =
             rw (ident-is r b)
             (record {
@@ -172,3 +210,7 @@ module _ {w : List ℕ} {i k x y n : ℕ} (f : Found w i k x y n) (z : k ≡ 3) 
               closed = a .closed u;
               quiet = or-no (member (bytesAt s (x, y)) stackNames) (loud (resolveTable s t) m′ (bytesAt s (x, y))) plain (ap not (quiet-at (memoryOf (resolveTable s t) m′ (bytesAt s (x, y))) (stateOf m′ j) (memory m′) (a .quiet u)));
             })
+
+      -- what its memory says, or that it is to be asked
+      pub ident-asks : j < length (resolveTable s t) → Right (resolveTable s t) m → (a : Step) → a ≡ recalled (stateOf m j) j i → Visited a s (resolveTable s t) m r
+      ident-asks l u = recalled-case (λ a. Visited a s (resolveTable s t) m r) (stateOf m j) j i (λ e. ident-changes (look-yes u e) refl) (λ _. record { yes = λ m′ a. ident-changes a refl; no = λ m′ a. ident-passes a refl }) (λ y z. ident-passes (look-no l u y z) refl)

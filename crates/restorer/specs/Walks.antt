@@ -2,7 +2,8 @@
 use mathlib.Core.Path.{_≡_}
 use mathlib.Core.Bool.{Bool, true, false, cond}
 use mathlib.Core.List.{List, [], _∷_}
-use Prim.Native.Nat.{ℕ, _+_, _-_, _≤_}
+use Prim.Native.Nat.{ℕ, _+_, _-_, _/_, _≤_, _<_}
+use lib.ListN.{length}
 use lib.Dec.{eqb}
 use Rattle.grammar.specs.Basic.{Bytes}
 use Rattle.grammar.specs.Tree.{Expr, E, lit, fixed, skip, un, bin, size, isUn}
@@ -11,9 +12,9 @@ use Rattle.grammar.specs.Text.{resolve}
 use Rattle.grammar.specs.Table.{Table}
 use Rattle.grammar.specs.Stack.{Reaches, changesLit}
 use Rattle.rows.specs.Rows.{At}
-use Rattle.restorer.specs.Search.{loud, Searches, Closed}
+use Rattle.restorer.specs.Search.{stateOf, loud, Searches, Closed, Looks}
 use Rattle.restorer.specs.declared.Step.{Step}
-use Rattle.restorer.specs.declared.Step.the-variants.{Changes, Next}
+use Rattle.restorer.specs.declared.Step.the-variants.{Changes, Next, Into}
 
 -- the trees stand one after the other from row `from` up to row i
 abbrev pub Run : List ℕ → ℕ → ℕ → List (Expr Span) → Type 0
@@ -46,6 +47,10 @@ unfoldable pub stepFrom : ℕ → ℕ → ℕ → Step
 stepFrom k i n =
     pick (eqb k 18) Changes (pick (eqb k 17) (Next (i + 1 - n)) (pick (eqb k 19) (Next (i + 1 - n)) (Next i)))
 
+-- the step from row i, which names rule k, whose memory is s: that rule is asked where it was not seen
+unfoldable pub recalled : ℕ → ℕ → ℕ → Step
+recalled s k i = pick (eqb s 3) Changes (pick (eqb s 0) (Into k) (Next i))
+
 -- a change is reached from the tree r
 pub record Changing (s : Bytes) (t : Table Bytes) (m m′ : List ℕ) (r : Expr Span) : Type 0 where
   pub searches : Searches t m m′
@@ -57,11 +62,24 @@ pub record Passing (s : Bytes) (t : Table Bytes) (m m′ : List ℕ) (r : Expr S
   pub closed : Closed t m m′
   pub quiet : changesAt (loud t m′) (resolve s r) ≡ false
 
-abbrev pub Visited : Step → Bytes → Table Bytes → (m m′ : List ℕ) → Expr Span → Type 0
-Visited Changes s t m m′ r = Changing s t m m′ r
-Visited (Next j) s t m m′ r = Passing s t m m′ r
+-- rule k is to say which
+pub record Asking (s : Bytes) (t : Table Bytes) (m : List ℕ) (k : ℕ) (r : Expr Span) : Type 0 where
+  pub yes : (m′ : List ℕ) → Looks t m m′ k true → Changing s t m m′ r
+  pub no : (m′ : List ℕ) → Looks t m m′ k false → Passing s t m m′ r
+
+abbrev pub Visited : Step → Bytes → Table Bytes → List ℕ → Expr Span → Type 0
+Visited Changes s t m r = Changing s t m m r
+Visited (Next j) s t m r = Passing s t m m r
+Visited (Into k) s t m r = Asking s t m k r
 
 -- where it is none, what is below the root, row i, stands up to row j
 abbrev pub GoesOn : Step → List ℕ → ℕ → Expr Span → Type 0
 GoesOn Changes w i r = Unit {0}
 GoesOn (Next j) w i r = (j ≤ i) × Run w (i + 1 - size r) j (below r)
+GoesOn (Into k) w i r = (i ≤ i) × Run w (i + 1 - size r) i (below r)
+
+-- a rule that is to be asked was not seen
+abbrev pub Unseen : Step → List ℕ → List ℕ → Type 0
+Unseen Changes rules m = Unit {0}
+Unseen (Next j) rules m = Unit {0}
+Unseen (Into k) rules m = (k < length rules / 4) × (stateOf m k ≡ 0)

@@ -16,9 +16,9 @@ ghost use Rattle.rows.specs.Rows.{Inside, At, Stands, shapeOf, kindAt, xAt, yAt
 ghost use Rattle.rows.specs.declared.Shape.the-variants.{One, Two};
 ghost use Rattle.writing.specs.Writes.{Room, Answer};
 ghost use Rattle.names.specs.Names.{marked, Hashed};
-ghost use Rattle.restorer.specs.Search.{Right, Answers, Looks, turnedTo, withTurned, Rested, RuleSettled};
+ghost use Rattle.restorer.specs.Search.{stateOf, Right, Answers, Looks, turnedTo, withTurned, Rested, RuleSettled};
 ghost use Rattle.restorer.specs.Lends.{Lent, Marked, Given, Steady, Ran, TreeRows, Settles};
-ghost use Rattle.restorer.specs.Walks.{stepFrom, GoesOn, Visited};
+ghost use Rattle.restorer.specs.Walks.{stepFrom, recalled, GoesOn, Visited, Unseen};
 ghost use Rattle.restorer.specs.Restores.{isGuard, showsThrough, guardedIf, Sure, Known, RowIs, climbed, RestoredAnswer, Over, NodeAnswer, OverAnswer, Becomes, Climbable};
 ghost use Rattle.chains.specs.Runs.{ups};
 use names::Found;
@@ -36,10 +36,11 @@ const NO: u32 = 2;
 
 const YES: u32 = 3;
 
-// What a row says of the stack: it can change, or nothing shows yet and the search goes on before this row.
-pub enum Step {
+// What a row says of the stack: it can change, or nothing shows and the search goes on before this row, or a rule that was not seen is to say it.
+enum Step {
     Changes,
     Next(usize),
+    Into(usize),
 }
 
 // The step from row i, which is no Ident.
@@ -60,21 +61,67 @@ fn step_from(kind: u32, i: usize, size: usize) -> Step
     Step::Next(i)
 }
 
-// Whether the stack can change through rule i, as far as this search can tell.
-pub fn look(rules: &[u32], rows: &[u32], text: &[u8], marks: &mut [u32], i: usize) -> bool
+// The step from row i, which names rule k, by that rule's memory.
+fn recall(marks: &[u32], k: usize, i: usize) -> Step
+    requires { ⌜ k * 4 + 1 < length (now marks) ⌝ }
+    ensures { λ a. ⌜ a ≡ recalled (stateOf (now (marks .entry)) k) k i ⌝ }
+{
+    let state = marks[k * 4 + 1];
+    if state == YES {
+        return Step::Changes;
+    }
+    if state == UNSEEN {
+        return Step::Into(k);
+    }
+    Step::Next(i)
+}
+
+// The step from row i, which is an Ident.
+fn named(rules: &[u32], rows: &[u32], text: &[u8], marks: &[u32], i: usize) -> Step
+    requires { ⌜ Given (now rules) (now rows) (now text) (now marks) ⌝ }
+    requires { ⌜ i < length (now rows) / 4 ⌝ }
+    requires { ⌜ kindAt (now rows) i ≡ 3 ⌝ }
+    ensures { λ a. ⌜ Unseen a (now (rules .entry)) (now (marks .entry)) ⌝ }
+    ensures { λ a. ⌜ ((r : Expr Span) → At (now (rows .entry)) i r → GoesOn a (now (rows .entry)) i r) ⌝ }
+    ensures { λ a. ⌜ ((t : Table Span) (r : Expr Span) → Lent t (now (rules .entry)) (now (rows .entry)) → At (now (rows .entry)) i r → Right (resolveTable (now (text .entry)) t) (now (marks .entry)) → Visited a (now (text .entry)) (resolveTable (now (text .entry)) t) (now (marks .entry)) r) ⌝ }
+{
+    let at = i * 4;
+    let x = wide(rows[at + 1]);
+    let n = wide(rows[at + 2]);
+    if names::changes_stack(text, x, n) {
+        return Step::Changes;
+    }
+    let Found::At(k) = names::find_rule(rules, text, marks, text, x, n) else {
+        return Step::Next(i);
+    };
+    recall(marks, k, i)
+}
+
+// What row i says of the stack.
+fn visit(rules: &[u32], rows: &[u32], text: &[u8], marks: &[u32], i: usize) -> Step
+    requires { ⌜ Given (now rules) (now rows) (now text) (now marks) ⌝ }
+    requires { ⌜ Stands (now rows) i ⌝ }
+    ensures { λ a. ⌜ Unseen a (now (rules .entry)) (now (marks .entry)) ⌝ }
+    ensures { λ a. ⌜ ((r : Expr Span) → At (now (rows .entry)) i r → GoesOn a (now (rows .entry)) i r) ⌝ }
+    ensures { λ a. ⌜ ((t : Table Span) (r : Expr Span) → Lent t (now (rules .entry)) (now (rows .entry)) → At (now (rows .entry)) i r → Right (resolveTable (now (text .entry)) t) (now (marks .entry)) → Visited a (now (text .entry)) (resolveTable (now (text .entry)) t) (now (marks .entry)) r) ⌝ }
+{
+    let at = i * 4;
+    let kind = rows[at];
+    if kind != 3 {
+        return step_from(kind, i, wide(rows[at + 3]));
+    }
+    named(rules, rows, text, marks, i)
+}
+
+// Whether the stack can change through rule i, which was not seen, as far as this search can tell.
+fn look(rules: &[u32], rows: &[u32], text: &[u8], marks: &mut [u32], i: usize) -> bool
     requires { ⌜ Given (now rules) (now rows) (now text) (now marks) ⌝ }
     requires { ⌜ i < length (now rules) / 4 ⌝ }
+    requires { ⌜ stateOf (now marks) i ≡ 0 ⌝ }
     ensures { λ b. ⌜ Ran (now (marks .entry)) (now (marks .exit)) ⌝ }
     ensures { λ b. ⌜ ((t : Table Span) → Lent t (now (rules .entry)) (now (rows .entry)) → Right (resolveTable (now (text .entry)) t) (now (marks .entry)) → Looks (resolveTable (now (text .entry)) t) (now (marks .entry)) (now (marks .exit)) i b) ⌝ }
 {
     let at = i * 4;
-    let state = marks[at + 1];
-    if state == YES {
-        return true;
-    }
-    if state != UNSEEN {
-        return false;
-    }
     let end = wide(marks[at + 3]);
     marks[at + 1] = SEEN;
     if walk(rules, rows, text, marks, end - wide(rules[at + 3]), end) {
@@ -84,37 +131,8 @@ pub fn look(rules: &[u32], rows: &[u32], text: &[u8], marks: &mut [u32], i: usiz
     false
 }
 
-// Whether the stack can change at row i; where it is an Ident, through its rule.
-pub fn visit(rules: &[u32], rows: &[u32], text: &[u8], marks: &mut [u32], i: usize) -> Step
-    requires { ⌜ Given (now rules) (now rows) (now text) (now marks) ⌝ }
-    requires { ⌜ Stands (now rows) i ⌝ }
-    ensures { λ a. ⌜ Ran (now (marks .entry)) (now (marks .exit)) ⌝ }
-    ensures { λ a. ⌜ ((r : Expr Span) → At (now (rows .entry)) i r → GoesOn a (now (rows .entry)) i r) ⌝ }
-    ensures { λ a. ⌜ ((t : Table Span) (r : Expr Span) → Lent t (now (rules .entry)) (now (rows .entry)) → At (now (rows .entry)) i r → Right (resolveTable (now (text .entry)) t) (now (marks .entry)) → Visited a (now (text .entry)) (resolveTable (now (text .entry)) t) (now (marks .entry)) (now (marks .exit)) r) ⌝ }
-{
-    let Lookup::Row { kind, x, y, size } = rows::row_at(rows, i) else {
-        return Step::Changes;
-    };
-    if kind != 3 {
-        return step_from(kind, i, wide(size));
-    }
-    let offset = wide(x);
-    let n = wide(y);
-    if names::changes_stack(text, offset, n) {
-        return Step::Changes;
-    }
-    let Found::At(k) = names::find_rule(rules, text, marks, text, offset, n) else {
-        return Step::Next(i);
-    };
-    if look(rules, rows, text, marks, k) {
-        Step::Changes
-    } else {
-        Step::Next(i)
-    }
-}
-
 // Whether the stack can change through the tree of the rows from `from` to `end`, as far as this search can tell.
-pub fn walk(
+fn walk(
     rules: &[u32],
     rows: &[u32],
     text: &[u8],
@@ -129,10 +147,21 @@ pub fn walk(
 {
     let mut i = end;
     while from < i {
-        let Step::Next(j) = visit(rules, rows, text, marks, i - 1) else {
-            return true;
-        };
-        i = j;
+        // a call for a rule that was not seen, none for a row
+        match visit(rules, rows, text, marks, i - 1) {
+            Step::Changes => {
+                return true;
+            }
+            Step::Next(j) => {
+                i = j;
+            }
+            Step::Into(k) => {
+                if look(rules, rows, text, marks, k) {
+                    return true;
+                }
+                i -= 1;
+            }
+        }
     }
     false
 }
@@ -240,7 +269,7 @@ pub fn still(rows: &[u32], text: &[u8]) -> bool
 }
 
 // The place after a tree that was written, with whether the stack can change through it; or Full where it does not fit.
-pub enum Restored {
+enum Restored {
     To(Place, bool),
     Full,
 }
@@ -423,7 +452,7 @@ fn climb(
 }
 
 // Writes the subtree of row `root`, which has two children, at p.
-pub fn two(
+fn two(
     rules: &[u32],
     marks: &[u32],
     rows: &[u32],
@@ -472,7 +501,7 @@ pub fn two(
 }
 
 // Writes the subtree of row `root`, which has not one child, at p, restored, and tells what shows of it.
-pub fn bottom(
+fn bottom(
     rules: &[u32],
     marks: &[u32],
     rows: &[u32],
@@ -507,7 +536,7 @@ pub fn bottom(
 }
 
 // Writes the subtree of row `root` at p, restored, and if `guard` under a RestoreOnErr where the stack can change through it.
-pub fn put(
+fn put(
     rules: &[u32],
     marks: &[u32],
     rows: &[u32],
