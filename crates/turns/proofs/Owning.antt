@@ -6,14 +6,14 @@ use native.Mathlib.Omega.{arith}
 use lib.ListN.{length, take, length-take}
 use Rattle.grammar.specs.Basic.{Bytes}
 use Rattle.grammar.specs.Rows.{Span}
-use Rattle.grammar.specs.Table.{Table, packedFrom, resolveTable}
+use Rattle.grammar.specs.Table.{Table, packedFrom, resolveTable, tableText}
 use Rattle.grammar.specs.Steps.{each}
 use Rattle.names.specs.Names.{Hashed}
 use Rattle.writing.specs.declared.Place.{Place}
 use Rattle.writing.specs.declared.Wrote.{Wrote}
 use Rattle.restorer.specs.Lends.{Marked}
-use Rattle.passes.specs.Passes.{stepOf, Asks, AsksAll, Lent, Holds, Front, Passing, TableFits, PassAnswer}
-use Rattle.turns.specs.Chain.{Sized, Works, Stands, Restorable, Owns, after}
+use Rattle.passes.specs.Passes.{stepOf, Asks, AsksAll, Lent, Holds, Front, TableFits, PassAnswer}
+use Rattle.turns.specs.Chain.{Sized, Turning, Works, Stands, Restorable, Owns, after}
 use Rattle.turns.proofs.Fronts.{front-is, front-within}
 use Rattle.turns.proofs.Turns.{holds-part}
 use Rattle.turns.proofs.Asking.{asks-all}
@@ -40,26 +40,30 @@ own-asks w t =
     })
     t
 
-pub own-passing : {step n : ℕ} {q : Place} {os o s marks os₂ o₂ s₂ : List ℕ} (k : Stands n q os o s) → Owns step n q os o s marks → Works os o s os₂ o₂ s₂ → let rs = take n os in let ws = take (q .rows * 4) o in let text = take (q .text) s in Passing step rs ws text marks rs ws text os₂ o₂ s₂
-own-passing {step} {n} {q} {os} {o} {s} {marks} {os₂} {o₂} {s₂} k w z =
+pub own-room : {n : ℕ} {q : Place} {os o s os₂ o₂ s₂ : List ℕ} (k : Stands n q os o s) → Works os o s os₂ o₂ s₂ → TableFits (k .table) os₂ o₂ s₂
+own-room k z = let t : Table Bytes = k .table in sized-room t (z .other) (front-few t (z .one) (k .front)) (front-fine t (z .one) (k .front))
+
+pub own-turning : {step n : ℕ} {q : Place} {os o s marks os₂ o₂ s₂ : List ℕ} (k : Stands n q os o s) → Owns step n q os o s marks → Works os o s os₂ o₂ s₂ → Turning step (take n os) (take (q .rows * 4) o) (take (q .text) s) marks n q os o s os₂ o₂ s₂
+own-turning {step} {n} {q} {os} {o} {s} {marks} {os₂} {o₂} {s₂} k w z =
     let h = stands-holds k in
     let t : Table Bytes = k .table in
+    let rs = take n os in
+    let ws = take (q .rows * 4) o in
+    let text = take (q .text) s in
     record {
       given = packedFrom 0 t;
       lent = record { rules = h .rules; rows = h .rows };
-      table = packedFrom 0 t;
-      holds = h;
-      fits = λ _. subst (λ (x : Table Bytes). TableFits x os₂ o₂ s₂) (sym (front-is t (k .front))) (sized-room t (z .other) (front-few t (z .one) (k .front)) (front-fine t (z .one) (k .front)));
-      asks = own-asks w (packedFrom 0 t);
+      table = t;
+      front = k .front;
+      count = k .count;
+      room = own-room k z;
+      asks = subst (λ (x : List ℕ). AsksAll step rs ws text marks x (tableText t) (packedFrom 0 t)) (k .front .row-words) (subst (λ (x : Bytes). AsksAll step rs ws text marks ws x (packedFrom 0 t)) (k .front .bytes) (own-asks w (packedFrom 0 t)));
     }
 
-pub own-few : {n : ℕ} {q : Place} {os o s os₂ o₂ s₂ : List ℕ} → Stands n q os o s → Works os o s os₂ o₂ s₂ → length (take n os) ≤ length os₂
-own-few {n} {q} {os} k z = omega (arith, length-take n os, z .one .rules, z .other .rules, stands-within k .0)
-
-pub own-answer : (a : Wrote) (step : ℕ) {q : Place} (t : Table Bytes) {os o s : List ℕ} (n : ℕ) (os₂ o₂ s₂ os′ o′ s′ : List ℕ) → Front q t os o s → n ≡ length t * 4 → (Lent (packedFrom 0 t) (take n os) (take (q .rows * 4) o) → Holds (packedFrom 0 t) (take n os) (take (q .rows * 4) o) (take (q .text) s) → let u = resolveTable (take (q .text) s) (packedFrom 0 t) in PassAnswer a (each (stepOf step u) u) os₂ o₂ s₂ os′ o′ s′) → PassAnswer a (after step t t) os₂ o₂ s₂ os′ o′ s′
+pub own-answer : (a : Wrote) (step : ℕ) {q : Place} (t : Table Bytes) {os o s : List ℕ} (n : ℕ) (os₂ o₂ s₂ os′ o′ s′ : List ℕ) → Front q t os o s → n ≡ length t * 4 → (Lent (packedFrom 0 t) (take n os) (take (q .rows * 4) o) → PassAnswer a (each (stepOf step (resolveTable (take (q .text) s) (packedFrom 0 t))) t) os₂ o₂ s₂ os′ o′ s′) → PassAnswer a (after step t t) os₂ o₂ s₂ os′ o′ s′
 own-answer a step t n os₂ o₂ s₂ os′ o′ s′ f e p =
     let h = holds-part t n e f in
-    subst (λ (x : Table Bytes). PassAnswer a (each (stepOf step x) x) os₂ o₂ s₂ os′ o′ s′) (front-is t f) (p (record { rules = h .rules; rows = h .rows }) h)
+    subst (λ (x : Table Bytes). PassAnswer a (each (stepOf step x) t) os₂ o₂ s₂ os′ o′ s′) (front-is t f) (p (record { rules = h .rules; rows = h .rows }))
 
 -- with the hashes of its names
 pub stands-marked : {n : ℕ} {q : Place} {os o s m : List ℕ} → Stands n q os o s → Hashed (take n os) (take (q .text) s) m → Marked (take n os) (take (q .rows * 4) o) (take (q .text) s) m

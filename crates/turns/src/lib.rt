@@ -31,8 +31,9 @@ pub enum Seven {
     Full,
 }
 
-// A step from the packed table in front of one work table, up to p, to the other work table.
-pub fn turn(
+// A step from the packed table in front of one work table, up to p, to the other work table: copied as it is where the rows show that the step
+// leaves it so, which is cheaper than rule by rule.
+fn turn(
     step: u32,
     heads0: &[u32],
     rows0: &[u32],
@@ -56,6 +57,10 @@ pub fn turn(
     let h = &heads[..count];
     let r = &rows[..words];
     let t = &text[..bytes];
+    if passes::all_still(step, h, r, t) {
+        packing::put_out(count, p, heads, rows, text, heads2, rows2, text2);
+        return Wrote::Done(p);
+    }
     passes::pass(
         step,
         heads0,
@@ -72,7 +77,7 @@ pub fn turn(
 }
 
 // Two steps, from the table in front of one work table to the other and back.
-pub fn two_steps(
+fn two_steps(
     step: u32,
     next: u32,
     heads0: &[u32],
@@ -129,7 +134,7 @@ pub fn two_steps(
 }
 
 // Steps 1 to 5: rotate, skip, unroll, concatenate, factor.
-pub fn first_five(
+fn first_five(
     rules: &[u32],
     rows: &[u32],
     text: &[u8],
@@ -201,7 +206,7 @@ pub fn first_five(
 }
 
 // The marks of a packed table, settled for restore.
-pub fn settle(count: usize, p: Place, heads: &[u32], rows: &[u32], text: &[u8], marks: &mut [u32])
+fn settle(count: usize, p: Place, heads: &[u32], rows: &[u32], text: &[u8], marks: &mut [u32])
     requires { ⌜ Stands count p (now heads) (now rows) (now text) ⌝ }
     requires { ⌜ (count ≤ length (now marks)) × (count < 262144) × (length (now rows) < 2 ^ 32) ⌝ }
     ensures { λ _. ⌜ Restorable count p (now (heads .entry)) (now (rows .entry)) (now (text .entry)) (now (marks .exit)) ⌝ }
@@ -216,7 +221,7 @@ pub fn settle(count: usize, p: Place, heads: &[u32], rows: &[u32], text: &[u8], 
 }
 
 // A step on a packed table that looks into that table alone.
-pub fn own(
+fn own(
     step: u32,
     marks: &[u32],
     count: usize,
@@ -238,11 +243,54 @@ pub fn own(
     let h = &heads[..count];
     let r = &rows[..words];
     let t = &text[..bytes];
-    passes::pass(step, h, r, t, marks, h, r, t, heads2, rows2, text2)
+    turn(
+        step,
+        h,
+        r,
+        t,
+        marks,
+        count,
+        p,
+        heads,
+        rows,
+        text,
+        heads2,
+        rows2,
+        text2,
+    )
+}
+
+// Step 7 on a packed table: most change no stack, and there is nothing to search for.
+fn restore(
+    marks: &mut [u32],
+    count: usize,
+    p: Place,
+    heads: &[u32],
+    rows: &[u32],
+    text: &[u8],
+    heads2: &mut [u32],
+    rows2: &mut [u32],
+    text2: &mut [u8],
+) -> Wrote
+    requires { ⌜ 1024 ≤ length (now marks) ⌝ }
+    requires { ⌜ Stands count p (now heads) (now rows) (now text) ⌝ }
+    requires { ⌜ Works (now heads) (now rows) (now text) (now heads2) (now rows2) (now text2) ⌝ }
+    ensures { λ a. ⌜ ((t : Table Bytes) → Front p t (now (heads .entry)) (now (rows .entry)) (now (text .entry)) → count ≡ length t * 4 → PassAnswer a (after 7 t t) (now (heads2 .entry)) (now (rows2 .entry)) (now (text2 .entry)) (now (heads2 .exit)) (now (rows2 .exit)) (now (text2 .exit))) ⌝ }
+{
+    let words = p.rows * 4;
+    let bytes = p.text;
+    let r = &rows[..words];
+    let t = &text[..bytes];
+    if restorer::still(r, t) {
+        packing::put_out(count, p, heads, rows, text, heads2, rows2, text2);
+        return Wrote::Done(p);
+    }
+    settle(count, p, heads, rows, text, marks);
+    own(7, marks, count, p, heads, rows, text, heads2, rows2, text2)
 }
 
 // Steps 6 and 7: list, restore.
-pub fn last_two(
+fn last_two(
     marks: &mut [u32],
     count: usize,
     p: Place,
@@ -272,9 +320,7 @@ pub fn last_two(
     ) else {
         return Two::Full;
     };
-    settle(count, q, b_rules, b_rows, b_text, marks);
-    let Wrote::Done(r) = own(
-        7,
+    let Wrote::Done(r) = restore(
         marks,
         count,
         q,
