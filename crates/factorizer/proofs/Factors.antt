@@ -38,15 +38,6 @@ pub factored-un : (tight : Bool) (u : Un) (e : E) → factored tight (un u e) �
 unfolding factor?
 factored-un tight u e = factored-step tight (un u e)
 
--- a root that is left as it is
-pub factored-plain : (tight : Bool) (e : E) → factor? tight e ≡ none → factored tight e ≡ beneath tight e
-factored-plain tight e h = factored-step tight e ∙ rw h
-
--- factor leaves a root that is no Choice as it is
-pub no-choice : (tight : Bool) (e : E) → asChoice e ≡ none → factor? tight e ≡ none
-unfolding factor?
-no-choice tight e h = rw h
-
 -- a root that is no Choice is not tried
 pub factored-other : (tight : Bool) (e : E) → asChoice e ≡ none → factored tight e ≡ beneath tight e
 unfolding factor?

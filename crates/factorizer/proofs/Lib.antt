@@ -3,3 +3,4 @@ pub mod Factors
 mod Splits
 mod Walks
 mod Quiets
+mod Plans

@@ -1,3 +1,4 @@
--- Factor by node, and what is found out at a Choice before it is written.
+-- Factor by node, what is found out at a Choice before it is written, and what is written for a tree.
 pub mod Factors
 pub mod Cases
+pub mod Plans

@@ -1,19 +1,21 @@
 // Factor, over a whole subtree: a Choice of two sides that begin alike.
 ghost use mathlib.Core.Path.{_≡_};
-ghost use mathlib.Core.Bool.{false};
+ghost use mathlib.Core.Bool.{Bool, false};
 ghost use mathlib.Core.Option.{none};
 ghost use Rattle.grammar.specs.Basic.{Bytes};
-ghost use Prim.Native.Nat.{_+_, _-_, _^_, _≤_, _<_};
+ghost use Prim.Native.Nat.{ℕ, _+_, _-_, _/_, _^_, _≤_, _<_};
 ghost use lib.ListN.{length};
-ghost use Rattle.grammar.specs.Tree.{Expr, Bin, Choice, bin, binKind};
+ghost use Rattle.grammar.specs.Tree.{Expr, E, Bin, bin, binKind};
 ghost use Rattle.grammar.specs.Rows.{Span};
 ghost use Rattle.grammar.specs.Text.{resolve};
 ghost use Rattle.grammar.specs.Steps.{isTight, factor?, factor};
 ghost use Rattle.rows.specs.Rows.{kindAt, Inside, At, Stands};
 ghost use Rattle.writing.specs.Writes.{Areas, RowAnswer};
 ghost use Rattle.writing.specs.Keeps.{KeptAnswer, Ready};
-ghost use Rattle.factorizer.specs.Factors.{factored, beneath, untried, ReadyBoth, FiresTold};
+ghost use Rattle.chains.specs.Runs.{ups, Raisable, RaisedAnswer};
+ghost use Rattle.factorizer.specs.Factors.{factored, beneath};
 ghost use Rattle.factorizer.specs.Cases.{SidesTold, CaseTold};
+ghost use Rattle.factorizer.specs.Plans.{TreeAt, TreeStands, TreeReady, PartsTold, BaseTold, PartOf, PlanTold, OverAnswer};
 use rows::Lookup;
 use rows::Shape;
 use writing::Place;
@@ -45,7 +47,7 @@ pub fn tight_rule(rule: u32) -> bool
 }
 
 // Whether the row `root` is a Seq, and where its sides stand.
-pub fn split(rows: &[u32], root: usize) -> Sides
+fn split(rows: &[u32], root: usize) -> Sides
     requires { ⌜ Stands (now rows) root ⌝ }
     ensures { λ a. ⌜ ((t : Bytes) (x : Expr Span) → At (now (rows .entry)) root x → SidesTold a (now (rows .entry)) t x) ⌝ }
 {
@@ -76,7 +78,7 @@ pub fn split(rows: &[u32], root: usize) -> Sides
 }
 
 // Which case the Choice of the subtrees of rows l and r is: the first that fits.
-pub fn case_of(rows: &[u32], text: &[u8], l: usize, r: usize, tight: bool) -> Case
+fn case_of(rows: &[u32], text: &[u8], l: usize, r: usize, tight: bool) -> Case
     requires { ⌜ Inside (now rows) (length (now text)) ⌝ }
     requires { ⌜ Stands (now rows) l ⌝ }
     requires { ⌜ Stands (now rows) r ⌝ }
@@ -118,7 +120,7 @@ pub fn case_of(rows: &[u32], text: &[u8], l: usize, r: usize, tight: bool) -> Ca
 }
 
 // Whether the Choice of row i is one of the three cases.
-pub fn fires(rows: &[u32], text: &[u8], i: usize, tight: bool) -> bool
+fn fires(rows: &[u32], text: &[u8], i: usize, tight: bool) -> bool
     requires { ⌜ Inside (now rows) (length (now text)) ⌝ }
     requires { ⌜ Stands (now rows) i ⌝ }
     requires { ⌜ kindAt (now rows) i ≡ 9 ⌝ }
@@ -141,19 +143,6 @@ pub fn fires(rows: &[u32], text: &[u8], i: usize, tight: bool) -> bool
         Case::First => true,
         Case::Plain => false,
     }
-}
-
-// Whether the node of row i, of that kind, is such a Choice.
-pub fn fires_at(rows: &[u32], text: &[u8], i: usize, kind: u32, tight: bool) -> bool
-    requires { ⌜ Inside (now rows) (length (now text)) ⌝ }
-    requires { ⌜ Stands (now rows) i ⌝ }
-    requires { ⌜ kindAt (now rows) i ≡ kind ⌝ }
-    ensures { λ b. ⌜ ((x : Expr Span) → At (now (rows .entry)) i x → FiresTold b kind tight (resolve (now (text .entry)) x)) ⌝ }
-{
-    if kind != 9 {
-        return false;
-    }
-    fires(rows, text, i, tight)
 }
 
 // Whether some Choice of the subtree of row `root` is one of the three cases.
@@ -184,205 +173,222 @@ pub fn any_fires(rows: &[u32], text: &[u8], root: usize, tight: bool) -> bool
 }
 
 // Ends a node whose children stand from p to q.
-pub fn end(out: &mut [u32], p: Place, q: Place, kind: u32, x: u32, y: u32) -> Wrote
+fn end(out: &mut [u32], p: Place, q: Place, kind: u32, x: u32, y: u32) -> Wrote
     requires { ⌜ (p .rows ≤ q .rows) × (q .rows < 2 ^ 30) ⌝ }
     ensures { λ a. ⌜ RowAnswer a q (kind, x, y) (q .rows - p .rows + 1) (now (out .entry)) (now (out .exit)) ⌝ }
 {
     writing::put_row(out, q, kind, x, y, (q.rows - p.rows + 1) as u32)
 }
 
-// Writes the factored subtrees of rows l and r, and a row of `kind` over them.
-pub fn both(
-    rows: &[u32],
-    text: &[u8],
-    l: usize,
-    r: usize,
-    tight: bool,
+// The rows of a node's two sides.
+pub enum Parts {
+    Two { kind: u32, l: usize, r: usize },
+    Fewer,
+}
+
+// What is written for a tree: the factored subtree of row x, then that of row y or, where `two`, of the Choice of rows y and z,
+// and the rows over them: by `kind` 8 a Seq, 9 a Choice, 10 an Opt over the second and a Seq; by 0 the first alone is written.
+pub struct Plan {
+    x: usize,
+    two: bool,
+    y: usize,
+    z: usize,
     kind: u32,
-    out: &mut [u32],
-    lits: &mut [u8],
-    p: Place,
-) -> Wrote
-    requires { ⌜ Inside (now rows) (length (now text)) ⌝ }
-    requires { ⌜ ReadyBoth (now rows) (now text) l r p (now out) (now lits) ⌝ }
-    requires { ⌜ Areas (now out) (now lits) ⌝ }
-    ensures { λ a. ⌜ ((b : Bin) (x y : Expr Span) → kind ≡ binKind b → At (now (rows .entry)) l x → At (now (rows .entry)) r y → KeptAnswer a p (bin b (factored tight (resolve (now (text .entry)) x)) (factored tight (resolve (now (text .entry)) y))) (now (out .entry)) (now (out .exit)) (now (lits .entry)) (now (lits .exit))) ⌝ }
-{
-    let Wrote::Done(q) = at(rows, text, l, tight, out, lits, p) else {
-        return Wrote::Full;
-    };
-    let Wrote::Done(s) = at(rows, text, r, tight, out, lits, q) else {
-        return Wrote::Full;
-    };
-    end(out, p, s, kind, 0, 0)
 }
 
-// Writes the factored form of the Choice of the subtrees of rows l and r, which need not stand together.
-pub fn choice(
-    rows: &[u32],
-    text: &[u8],
-    l: usize,
-    r: usize,
-    tight: bool,
-    out: &mut [u32],
-    lits: &mut [u8],
-    p: Place,
-) -> Wrote
-    requires { ⌜ Inside (now rows) (length (now text)) ⌝ }
-    requires { ⌜ ReadyBoth (now rows) (now text) l r p (now out) (now lits) ⌝ }
-    requires { ⌜ Areas (now out) (now lits) ⌝ }
-    ensures { λ a. ⌜ ((x y : Expr Span) → At (now (rows .entry)) l x → At (now (rows .entry)) r y → KeptAnswer a p (factored tight (bin Choice (resolve (now (text .entry)) x) (resolve (now (text .entry)) y))) (now (out .entry)) (now (out .exit)) (now (lits .entry)) (now (lits .exit))) ⌝ }
+// The sides of the node of row i.
+fn sides_of(rows: &[u32], i: usize) -> Parts
+    requires { ⌜ Stands (now rows) i ⌝ }
+    ensures { λ a. ⌜ ((e : Expr Span) → At (now (rows .entry)) i e → PartsTold a (now (rows .entry)) e) ⌝ }
 {
-    match case_of(rows, text, l, r, tight) {
-        Case::Heads { a, b, c } => {
-            let Wrote::Done(q) = at(rows, text, a, tight, out, lits, p) else {
-                return Wrote::Full;
-            };
-            let Wrote::Done(s) = choice(rows, text, b, c, tight, out, lits, q) else {
-                return Wrote::Full;
-            };
-            end(out, p, s, 8, 0, 0)
-        }
-        Case::Tail { a, b } => {
-            let Wrote::Done(q) = at(rows, text, a, tight, out, lits, p) else {
-                return Wrote::Full;
-            };
-            let Wrote::Done(s) = at(rows, text, b, tight, out, lits, q) else {
-                return Wrote::Full;
-            };
-            let Wrote::Done(u) = end(out, q, s, 10, 0, 0) else {
-                return Wrote::Full;
-            };
-            end(out, p, u, 8, 0, 0)
-        }
-        Case::First => untried(rows, text, l, r, true, tight, out, lits, p),
-        Case::Plain => untried(rows, text, l, r, false, tight, out, lits, p),
-    }
-}
-
-// Writes the subtree of row l, or the Choice of the subtrees of rows l and r, with factored children: its root is not tried again.
-// A function of its own: written out in `choice`, its calls take 64 bytes more of stack a level.
-pub fn untried(
-    rows: &[u32],
-    text: &[u8],
-    l: usize,
-    r: usize,
-    first: bool,
-    tight: bool,
-    out: &mut [u32],
-    lits: &mut [u8],
-    p: Place,
-) -> Wrote
-    requires { ⌜ Inside (now rows) (length (now text)) ⌝ }
-    requires { ⌜ ReadyBoth (now rows) (now text) l r p (now out) (now lits) ⌝ }
-    requires { ⌜ Areas (now out) (now lits) ⌝ }
-    ensures { λ a. ⌜ ((x y : Expr Span) → At (now (rows .entry)) l x → At (now (rows .entry)) r y → KeptAnswer a p (untried first tight (resolve (now (text .entry)) x) (resolve (now (text .entry)) y)) (now (out .entry)) (now (out .exit)) (now (lits .entry)) (now (lits .exit))) ⌝ }
-{
-    if first {
-        return children(rows, text, l, tight, out, lits, p);
-    }
-    both(rows, text, l, r, tight, 9, out, lits, p)
-}
-
-// Writes the row `root` as it is, with its children factored.
-pub fn children(
-    rows: &[u32],
-    text: &[u8],
-    root: usize,
-    tight: bool,
-    out: &mut [u32],
-    lits: &mut [u8],
-    p: Place,
-) -> Wrote
-    requires { ⌜ Inside (now rows) (length (now text)) ⌝ }
-    requires { ⌜ Ready (now rows) (now text) root p (now out) (now lits) ⌝ }
-    requires { ⌜ Areas (now out) (now lits) ⌝ }
-    ensures { λ a. ⌜ ((r : Expr Span) → At (now (rows .entry)) root r → KeptAnswer a p (beneath tight (resolve (now (text .entry)) r)) (now (out .entry)) (now (out .exit)) (now (lits .entry)) (now (lits .exit))) ⌝ }
-{
-    let Lookup::Row {
-        kind: k,
-        x: _,
-        y: _,
-        size: _,
-    } = rows::row_at(rows, root)
-    else {
-        return Wrote::Full;
-    };
-    // only a Choice is tried
-    if k != 9 {
-        return at(rows, text, root, tight, out, lits, p);
-    }
-    let right = root - 1;
-    let Lookup::Row {
-        kind: _,
-        x: _,
-        y: _,
-        size: n,
-    } = rows::row_at(rows, right)
-    else {
-        return Wrote::Full;
-    };
-    let left = right - rows::wide(n);
-    both(rows, text, left, right, tight, 9, out, lits, p)
-}
-
-// Writes the factored subtree of row `root`.
-pub fn at(
-    rows: &[u32],
-    text: &[u8],
-    root: usize,
-    tight: bool,
-    out: &mut [u32],
-    lits: &mut [u8],
-    p: Place,
-) -> Wrote
-    requires { ⌜ Inside (now rows) (length (now text)) ⌝ }
-    requires { ⌜ Ready (now rows) (now text) root p (now out) (now lits) ⌝ }
-    requires { ⌜ Areas (now out) (now lits) ⌝ }
-    ensures { λ a. ⌜ ((r : Expr Span) → At (now (rows .entry)) root r → KeptAnswer a p (factored tight (resolve (now (text .entry)) r)) (now (out .entry)) (now (out .exit)) (now (lits .entry)) (now (lits .exit))) ⌝ }
-{
-    let base = chains::below(rows, root);
     let Lookup::Row {
         kind,
         x: _,
         y: _,
         size: _,
-    } = rows::row_at(rows, base)
+    } = rows::row_at(rows, i)
     else {
-        return Wrote::Full;
+        return Parts::Fewer;
     };
     if let Shape::Two = rows::shape_of(kind) {
-        let right = base - 1;
+        let r = i - 1;
         let Lookup::Row {
             kind: _,
             x: _,
             y: _,
             size: n,
-        } = rows::row_at(rows, right)
+        } = rows::row_at(rows, r)
         else {
-            return Wrote::Full;
+            return Parts::Fewer;
         };
-        let left = right - rows::wide(n);
-        if fires_at(rows, text, base, kind, tight) {
-            let Wrote::Done(e) = choice(rows, text, left, right, tight, out, lits, p) else {
-                return Wrote::Full;
-            };
-            return chains::raise(rows, base, root, out, p, e);
-        }
-        // as `both` does, in one call less for each row of a deep tree
-        let Wrote::Done(q) = at(rows, text, left, tight, out, lits, p) else {
-            return Wrote::Full;
-        };
-        let Wrote::Done(s) = at(rows, text, right, tight, out, lits, q) else {
-            return Wrote::Full;
-        };
-        let Wrote::Done(e) = end(out, p, s, kind, 0, 0) else {
-            return Wrote::Full;
-        };
-        chains::raise(rows, base, root, out, p, e)
+        let l = r - rows::wide(n);
+        Parts::Two { kind, l, r }
     } else {
-        writing::keep(rows, text, root, out, lits, p)
+        Parts::Fewer
     }
+}
+
+// The sides of a tree: those of row l or, where `two`, the rows l and r.
+fn tree_sides(rows: &[u32], two: bool, l: usize, r: usize) -> Parts
+    requires { ⌜ TreeStands two (now rows) l r ⌝ }
+    ensures { λ a. ⌜ ((e : Expr Span) → TreeAt two (now (rows .entry)) l r e → PartsTold a (now (rows .entry)) e) ⌝ }
+{
+    if two {
+        return Parts::Two { kind: 9, l, r };
+    }
+    sides_of(rows, l)
+}
+
+// The subtree of row l with factored children: its root is not tried.
+fn untried(rows: &[u32], l: usize) -> Plan
+    requires { ⌜ Stands (now rows) l ⌝ }
+    ensures { λ a. ⌜ ((tight : Bool) (t : Bytes) (x : Expr Span) (e : E) → At (now (rows .entry)) l x → PartOf (resolve t x) e → PlanTold a tight (now (rows .entry)) t (beneath tight (resolve t x)) e) ⌝ }
+{
+    let Parts::Two { kind, l: x, r: y } = sides_of(rows, l) else {
+        // only a Choice is tried
+        return Plan {
+            x: l,
+            two: false,
+            y: l,
+            z: l,
+            kind: 0,
+        };
+    };
+    Plan {
+        x,
+        two: false,
+        y,
+        z: y,
+        kind,
+    }
+}
+
+// The node of that kind over the subtrees of rows l and r, which need not stand together.
+fn plan_of(rows: &[u32], text: &[u8], kind: u32, l: usize, r: usize, tight: bool) -> Plan
+    requires { ⌜ Inside (now rows) (length (now text)) ⌝ }
+    requires { ⌜ Stands (now rows) l ⌝ }
+    requires { ⌜ Stands (now rows) r ⌝ }
+    ensures { λ a. ⌜ ((b : Bin) (x y : Expr Span) → kind ≡ binKind b → At (now (rows .entry)) l x → At (now (rows .entry)) r y → PlanTold a tight (now (rows .entry)) (now (text .entry)) (factored tight (resolve (now (text .entry)) (bin b x y))) (resolve (now (text .entry)) (bin b x y))) ⌝ }
+{
+    if kind != 9 {
+        return Plan {
+            x: l,
+            two: false,
+            y: r,
+            z: r,
+            kind,
+        };
+    }
+    match case_of(rows, text, l, r, tight) {
+        Case::Heads { a, b, c } => Plan {
+            x: a,
+            two: true,
+            y: b,
+            z: c,
+            kind: 8,
+        },
+        Case::Tail { a, b } => Plan {
+            x: a,
+            two: false,
+            y: b,
+            z: b,
+            kind: 10,
+        },
+        Case::First => untried(rows, l),
+        Case::Plain => Plan {
+            x: l,
+            two: false,
+            y: r,
+            z: r,
+            kind: 9,
+        },
+    }
+}
+
+// Writes the rows by `kind` over what stands from p to q and from q to s.
+fn over(out: &mut [u32], p: Place, q: Place, s: Place, kind: u32) -> Wrote
+    requires { ⌜ (p .rows ≤ q .rows) × ((q .rows ≤ s .rows) × (s .rows ≤ length (now out) / 4)) ⌝ }
+    requires { ⌜ length (now out) < 2 ^ 32 ⌝ }
+    ensures { λ a. ⌜ OverAnswer a kind p q s (now (out .entry)) (now (out .exit)) ⌝ }
+{
+    if kind == 10 {
+        let Wrote::Done(e) = end(out, q, s, 10, 0, 0) else {
+            return Wrote::Full;
+        };
+        return end(out, p, e, 8, 0, 0);
+    }
+    if kind == 9 {
+        return end(out, p, s, 9, 0, 0);
+    }
+    end(out, p, s, 8, 0, 0)
+}
+
+// The row below the run at the top of a tree, that of row l or a Choice of two.
+fn base_of(rows: &[u32], two: bool, l: usize) -> usize
+    requires { ⌜ (two ≡ false → Stands (now rows) l) ⌝ }
+    ensures { λ b. ⌜ BaseTold two (now (rows .entry)) b l ⌝ }
+{
+    if two {
+        return l;
+    }
+    chains::below(rows, l)
+}
+
+// Writes the run at the top of a tree over what stands from p to q.
+fn run_over(
+    rows: &[u32],
+    two: bool,
+    base: usize,
+    l: usize,
+    out: &mut [u32],
+    p: Place,
+    q: Place,
+) -> Wrote
+    requires { ⌜ (two ≡ false → Raisable (now rows) base l p q (now out)) ⌝ }
+    ensures { λ a. ⌜ ((r : ℕ) (e : Expr Span) → TreeAt two (now (rows .entry)) l r e → RaisedAnswer a q p (ups e) (now (out .entry)) (now (out .exit))) ⌝ }
+{
+    if two {
+        return Wrote::Done(q);
+    }
+    chains::raise(rows, base, l, out, p, q)
+}
+
+// Writes the factored subtree of row l or, where `two`, the factored Choice of the subtrees of rows l and r, which need not stand
+// together. Each level of a deep tree takes a frame of this function: whatever needs no recursion is decided before.
+fn at(
+    rows: &[u32],
+    text: &[u8],
+    two: bool,
+    l: usize,
+    r: usize,
+    tight: bool,
+    out: &mut [u32],
+    lits: &mut [u8],
+    p: Place,
+) -> Wrote
+    requires { ⌜ Inside (now rows) (length (now text)) ⌝ }
+    requires { ⌜ TreeReady two (now rows) (now text) l r p (now out) (now lits) ⌝ }
+    requires { ⌜ Areas (now out) (now lits) ⌝ }
+    ensures { λ a. ⌜ ((e : Expr Span) → TreeAt two (now (rows .entry)) l r e → KeptAnswer a p (factored tight (resolve (now (text .entry)) e)) (now (out .entry)) (now (out .exit)) (now (lits .entry)) (now (lits .exit))) ⌝ }
+{
+    let base = base_of(rows, two, l);
+    let Parts::Two { kind, l: i, r: j } = tree_sides(rows, two, base, r) else {
+        return writing::keep(rows, text, l, out, lits, p);
+    };
+    let plan = plan_of(rows, text, kind, i, j, tight);
+    let Wrote::Done(q) = at(rows, text, false, plan.x, plan.x, tight, out, lits, p) else {
+        return Wrote::Full;
+    };
+    if plan.kind == 0 {
+        return run_over(rows, two, base, l, out, p, q);
+    }
+    let Wrote::Done(s) = at(rows, text, plan.two, plan.y, plan.z, tight, out, lits, q) else {
+        return Wrote::Full;
+    };
+    let Wrote::Done(e) = over(out, p, q, s, plan.kind) else {
+        return Wrote::Full;
+    };
+    run_over(rows, two, base, l, out, p, e)
 }
 
 // Writes the factored subtree of row `root` of a rule of that type at p, its literals packed: in most no case fits, and a copy is cheaper than a walk.
@@ -404,5 +410,5 @@ pub fn factor(
     if !any_fires(rows, text, root, tight) {
         return writing::keep(rows, text, root, out, lits, p);
     }
-    at(rows, text, root, tight, out, lits, p)
+    at(rows, text, false, root, root, tight, out, lits, p)
 }
