@@ -38,10 +38,10 @@ use Rattle.factorizer.proofs.Factors.{factored-other, factored-size, fa
 pub tree-one : {w : List ℕ} {l r : ℕ} {e : Expr Span} → At w l e → TreeAt false w l r e
 tree-one a = record { one = λ h. a; pair = λ h. absurd (false≢true h) }
 
-pub tree-pair : {w : List ℕ} {l r : ℕ} {e : Expr Span} → PairAt w l r e → TreeAt true w l r e
+tree-pair : {w : List ℕ} {l r : ℕ} {e : Expr Span} → PairAt w l r e → TreeAt true w l r e
 tree-pair a = record { one = λ h. absurd (false≢true (sym h)); pair = λ h. a }
 
-pub tree-unique : (two : Bool) {w : List ℕ} {l r : ℕ} (e f : Expr Span) → TreeAt two w l r e → TreeAt two w l r f → e ≡ f
+tree-unique : (two : Bool) {w : List ℕ} {l r : ℕ} (e f : Expr Span) → TreeAt two w l r e → TreeAt two w l r f → e ≡ f
 tree-unique true e f c d = let a = c .pair refl in let b = d .pair refl in a .is ∙ ap₂ (bin Choice) (at-unique _ _ (a .atLeft) (b .atLeft)) (at-unique _ _ (a .atRight) (b .atRight)) ∙ sym (b .is)
 tree-unique false e f a b = at-unique e f (a .one refl) (b .one refl)
 
@@ -53,7 +53,7 @@ abbrev pub treeSize : Bool → List ℕ → ℕ → ℕ → ℕ
 treeSize true w l r = sizeAt w l + sizeAt w r + 1
 treeSize false w l r = sizeAt w l
 
-pub tree-size : (two : Bool) {w : List ℕ} {l r : ℕ} {e : Expr Span} → TreeAt two w l r e → treeSize two w l r ≡ size e
+tree-size : (two : Bool) {w : List ℕ} {l r : ℕ} {e : Expr Span} → TreeAt two w l r e → treeSize two w l r ≡ size e
 tree-size true c = let a = c .pair refl in omega (arith, root (a .atLeft) .rows, root (a .atRight) .rows, ap size (a .is))
 tree-size false a = root (a .one refl) .rows
 
@@ -123,11 +123,11 @@ pub over-seq : (k : ℕ) (x y : E) → (k ≡ 10 → ⊥) → (k ≡ 9 → ⊥) 
 unfolding overOf
 over-seq k x y h g = rw (ne-eqb k 10 h, ne-eqb k 9 g)
 
-pub planned-alone : (k : ℕ) (x y : E) → k ≡ 0 → planned k x y ≡ x
+planned-alone : (k : ℕ) (x y : E) → k ≡ 0 → planned k x y ≡ x
 unfolding planned
 planned-alone k x y h = rw (eq-eqb k 0 h)
 
-pub planned-over : (k : ℕ) (x y : E) → (k ≡ 0 → ⊥) → planned k x y ≡ overOf k x y
+planned-over : (k : ℕ) (x y : E) → (k ≡ 0 → ⊥) → planned k x y ≡ overOf k x y
 unfolding planned
 planned-over k x y h = rw (ne-eqb k 0 h)
 
@@ -159,7 +159,7 @@ over-size k x y = go (eqb k 10) (eqb k 9) refl refl
 -- ---- plans
 
 module _ {a : Plan} {tight : Bool} {w : List ℕ} {t : Bytes} {e : E} where
-  pub plan-goal : {g h : E} → g ≡ h → PlanTold a tight w t h e → PlanTold a tight w t g e
+  plan-goal : {g h : E} → g ≡ h → PlanTold a tight w t h e → PlanTold a tight w t g e
   plan-goal {g} {h} q d = subst (λ (z : E). PlanTold a tight w t z e) (sym q) d
 
 -- what goes on alone, and a node with both its sides
@@ -177,7 +177,7 @@ module _ (tight : Bool) (w : List ℕ) (t : Bytes) where
     secondFalls = p .rows;
   }
 
-  pub both-plan : {k l r : ℕ} (b : Bin) (x y : Expr Span) {g e : E} → k ≡ binKind b → At w l x → At w r y → g ≡ bin b (factored tight (resolve t x)) (factored tight (resolve t y)) → Within (bin b (resolve t x) (resolve t y)) e
+  both-plan : {k l r : ℕ} (b : Bin) (x y : Expr Span) {g e : E} → k ≡ binKind b → At w l x → At w r y → g ≡ bin b (factored tight (resolve t x)) (factored tight (resolve t y)) → Within (bin b (resolve t x) (resolve t y)) e
       → PlanTold (record { x = l; two = false; y = r; z = r; kind = k }) tight w t g e
   both-plan b x y k c d q h = record {
     first = x;

@@ -1,4 +1,4 @@
--- A subtree that was read is factored by what the calls for its parts answer. Assumes nothing.
+-- The row that ends a node, leaves, and what was told of a Choice. Assumes nothing.
 use mathlib.Core.Path.{_≡_, refl, subst}
 use mathlib.Core.Bool.{Bool}
 use mathlib.Core.List.{List}
