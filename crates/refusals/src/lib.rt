@@ -408,6 +408,10 @@ pub fn names_fine(rules: &[u32], text: &[u8], marks: &[u32]) -> bool
 fn zero_row(kind: u32, x: u32, y: u32) -> bool
     ensures { λ r. ⌜ r ≡ zeroRow kind x y ⌝ }
 {
+    // nearly every row
+    if kind < 13 {
+        return false;
+    }
     if kind == 13 {
         return x == 0;
     }
