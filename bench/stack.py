@@ -4,7 +4,7 @@ import os
 import struct
 import sys
 
-STR, IDENT, POS, NEG, SEQ, CHOICE, OPT, REP, PUSH = 0, 3, 6, 7, 8, 9, 10, 11, 18
+STR, IDENT, POS, NEG, SEQ, CHOICE, OPT, REP, REP_EXACT, PUSH = 0, 3, 6, 7, 8, 9, 10, 11, 13, 18
 NORMAL, ATOMIC, COMPOUND = 0, 2, 3
 
 
@@ -29,22 +29,23 @@ def nested(kinds, type_, bottom=None):
     return sole(rows, type_)
 
 
-def left(kinds, type_):
-    rows = [leaf(0)]
+def left(kinds, type_, bottom=None):
+    rows = list(bottom or [leaf(0)])
     for i, k in enumerate(kinds):
-        rows += [leaf(i), (k, 0, 0, 2 * i + 3)]
+        rows += [leaf(i), (k, 0, 0, len(rows) + 2)]
     return sole(rows, type_)
 
 
-def right(kinds, type_):
-    rows = [leaf(i) for i in range(len(kinds) + 1)]
-    return sole(rows + [(k, 0, 0, 2 * i + 3) for i, k in enumerate(kinds)], type_)
+def right(kinds, type_, bottom=None):
+    low = bottom or [leaf(0)]
+    rows = [leaf(i) for i in range(len(kinds))] + low
+    return sole(rows + [(k, 0, 0, 2 * i + 2 + len(low)) for i, k in enumerate(kinds)], type_)
 
 
-def in_turns(one, two, on_left, type_):
-    """A one-child row and a two-child row by turns, 1,365 times."""
-    rows = [leaf(0)]
-    for _ in range(1365):
+def in_turns(one, two, on_left, type_, bottom=None, n=1365):
+    """A one-child row and a two-child row by turns."""
+    rows = list(bottom or [leaf(0)])
+    for _ in range(n):
         rows.append((one, 0, 0, len(rows) + 1))
         rows = rows + [leaf(1)] if on_left else [leaf(1)] + rows
         rows.append((two, 0, 0, len(rows) + 1))
@@ -84,6 +85,17 @@ def searched(i, next_, any_, x):
     return b
 
 
+# what a step rewrites, at the bottom of a deep tree: trees in which nothing fires are copied without a walk
+ANY = (IDENT, 3, 3, 1)
+BOTTOMS = {
+    "loop": [leaf(0), (NEG, 0, 0, 2), ANY, (SEQ, 0, 0, 4), (REP, 0, 0, 5)],
+    "twice": [leaf(0), (REP_EXACT, 2, 0, 2)],
+    "strings": [leaf(0), leaf(1), (SEQ, 0, 0, 3)],
+    "heads": [leaf(0), leaf(0), (SEQ, 0, 0, 3), leaf(0), leaf(1), (SEQ, 0, 0, 3), (CHOICE, 0, 0, 7)],
+    "list": [leaf(0), leaf(1), leaf(0), (SEQ, 0, 0, 3), (REP, 0, 0, 4), (SEQ, 0, 0, 6)],
+    "push": [leaf(0), (PUSH, 0, 0, 2)],
+}
+
 tables = {"readings": by_names(read, ATOMIC), "searches": by_names(searched, NORMAL)}
 for type_ in (NORMAL, ATOMIC, COMPOUND):
     for name, k in (("opt", OPT), ("rep", REP), ("pos", POS), ("neg", NEG), ("push", PUSH)):
@@ -99,6 +111,12 @@ for type_ in (NORMAL, ATOMIC, COMPOUND):
             for on_left in (True, False):
                 tables["turns-%d-%d-%s-%d" % (one, two, "left" if on_left else "right", type_)] = in_turns(one, two, on_left, type_)
     tables["factored-%d" % type_] = factored(type_, 680)
+    for what, low in BOTTOMS.items():
+        for name, kinds in (("seq", [SEQ] * 2043), ("choice", [CHOICE] * 2043), ("both", [SEQ, CHOICE] * 1021)):
+            tables["left-%s-%s-%d" % (name, what, type_)] = left(kinds, type_, low)
+            tables["right-%s-%s-%d" % (name, what, type_)] = right(kinds, type_, low)
+        for two in (SEQ, CHOICE):
+            tables["turns-%d-%s-%d" % (two, what, type_)] = in_turns(OPT, two, True, type_, low, 1360)
 os.makedirs(sys.argv[1], exist_ok=True)
 for name, data in tables.items():
     with open(os.path.join(sys.argv[1], name), "wb") as out:
