@@ -10,3 +10,4 @@ pub mod Spelling
 pub mod Skipping
 pub mod Quiets
 pub mod Falls
+pub mod Forks

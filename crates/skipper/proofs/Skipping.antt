@@ -21,12 +21,12 @@ use Rattle.rows.specs.declared.Shape.the-variants.{Lit, Num, One, Two, Skips}
 use Rattle.rows.specs.Rows.{At, shapeOf, kindAt}
 use Rattle.rows.proofs.Laws.{Found, root, headOf}
 use Rattle.rows.proofs.Views.{OneView, TwoView, as-one, as-two, shape-in, shapeIn, found-shape}
-use Rattle.writing.specs.Writes.{Areas, Room, Fits, Put, Written, RowAnswer, StrsAnswer, Answer}
+use Rattle.writing.specs.Writes.{Areas, Fits, Put, RowAnswer, StrsAnswer, Answer}
 use Rattle.writing.specs.declared.Place.{Place}
 use Rattle.writing.specs.declared.Wrote.{Wrote}
 use Rattle.writing.specs.declared.Wrote.the-variants.{Done, Full}
 use Rattle.writing.proofs.Puts.{put-done, put-full}
-use Rattle.writing.proofs.Trees.{done-written, full-not, written-room, bin-tree, fits-left, fits-right, skip-tree, fits-strs}
+use Rattle.writing.proofs.Trees.{skip-tree, fits-strs}
 use Rattle.skipper.specs.Memory.{markOf, nameList, byMarks, Known}
 use Rattle.skipper.specs.Lends.{marksOf, Lent}
 use Rattle.skipper.specs.Lists.{unreadIn, unreadAt, Lists}
@@ -215,29 +215,6 @@ module _ {t : Table Bytes} {m : List ℕ} (s : Bytes) {w : List ℕ} {i k x y n 
 pub record NodeRoom (p q : Place) : Type 0 where
   pub least : p .rows ≤ q .rows
   pub most : q .rows + 1 < 2 ^ 32
-
-pub node-room : {z : Wrote} {q : Place} (p : Place) (e : E) (o o₁ b b₁ : List ℕ) → z ≡ Done q → Answer z p e o o₁ b b₁ → Areas o b → NodeRoom p q
-node-room p e o o₁ b b₁ d h a = let w = done-written p e o o₁ b b₁ d h in record { least = omega (arith, w .rows); most = omega (arith, w .rows, w .fits .rows, a .words) }
-
--- two children
-module _ {z : Wrote} (p : Place) (v c e : E) {u : Rattle.grammar.specs.Tree.Bin} (o o₁ b b₁ : List ℕ) (g : v ≡ bin u c e) (h : Answer z p c o o₁ b b₁) where
-  pub left-full : z ≡ Full → Fits p v o b → ⊥
-  left-full d f = full-not p c o o₁ b b₁ d h (fits-left (rw g at f))
-
-  module _ {q : Place} (d : z ≡ Done q) where
-    pub left-room : Areas o b → Room q o₁ b₁
-    left-room a = written-room (done-written p c o o₁ b b₁ d h) a
-
-    module _ {y : Wrote} (o₂ b₂ : List ℕ) (j : Answer y q e o₁ o₂ b₁ b₂) where
-      pub right-full : y ≡ Full → Fits p v o b → ⊥
-      right-full l f = full-not q e o₁ o₂ b₁ b₂ l j (fits-right (done-written p c o o₁ b b₁ d h) (rw g at f))
-
-      pub both-done : {s : Place} (a : Wrote) (k : ℕ) (o₃ : List ℕ) → k ≡ Rattle.grammar.specs.Tree.binKind u → y ≡ Done s → RowAnswer a s (k, 0, 0) (s .rows - p .rows + 1) o₂ o₃ → Answer a p v o o₃ b b₂
-      both-done {s} a k o₃ l c′ r =
-          let w = done-written p c o o₁ b b₁ d h in
-          let x = done-written q e o₁ o₂ b₁ b₂ c′ j in
-          let n : s .rows - p .rows + 1 ≡ size c + size e + 1 = omega (arith, w .rows, x .rows) in
-          rw g (bin-tree w x a u (k, 0, 0) (s .rows - p .rows + 1) o₃ (ap (λ (i : ℕ). (i, 0, 0)) l) n r)
 
 -- a loop's list
 pub skip-spells : {rules rows : List ℕ} {t : Table Span} (u : Bytes) (x : E) {ss : List Bytes} → Lent rules rows t → skipList (resolveTable u t) x ≡ strings ss → Spells (resolveTable u t) (length rules / 4 + 1) (λ look. readIn look x) ss

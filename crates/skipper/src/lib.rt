@@ -823,36 +823,45 @@ fn skip_fork(
     else {
         return Wrote::Full;
     };
-    let left = right - wide(n);
-    let Wrote::Done(q) = skip_tree(
-        given_rules,
-        given_rows,
-        given_text,
-        marks,
-        rows,
-        text,
-        left,
+    // one call for both children: a second one makes every level of nesting take more stack
+    let mut child = right - wide(n);
+    let mut next = right;
+    let mut at = p.rows;
+    let mut end = p.text;
+    while child < base {
+        let Wrote::Done(q) = skip_tree(
+            given_rules,
+            given_rows,
+            given_text,
+            marks,
+            rows,
+            text,
+            child,
+            out,
+            lits,
+            Place {
+                rows: at,
+                text: end,
+            },
+        ) else {
+            return Wrote::Full;
+        };
+        at = q.rows;
+        end = q.text;
+        child = next;
+        next = base;
+    }
+    let Wrote::Done(v) = put_node(
         out,
-        lits,
         p,
+        Place {
+            rows: at,
+            text: end,
+        },
+        kind,
+        0,
+        0,
     ) else {
-        return Wrote::Full;
-    };
-    let Wrote::Done(s) = skip_tree(
-        given_rules,
-        given_rows,
-        given_text,
-        marks,
-        rows,
-        text,
-        right,
-        out,
-        lits,
-        q,
-    ) else {
-        return Wrote::Full;
-    };
-    let Wrote::Done(v) = put_node(out, p, s, kind, 0, 0) else {
         return Wrote::Full;
     };
     rise(rows, base, root, out, p, v)

@@ -1,5 +1,5 @@
 -- `fall` meets its contract: in each turn the tree at `base` is what is left below the run. Assumes nothing.
-use mathlib.Core.Path.{_≡_, sym, _∙_}
+use mathlib.Core.Path.{sym, _∙_}
 use native.Mathlib.Omega.{arith}
 use borrow.Author.Needs.{needs}
 use Rattle.rows.proofs.Laws.{Found, row-found, root-there}

@@ -1,8 +1,7 @@
 -- `rise` meets its contract: in each turn the rows after `base` up to row i stand over the tree. Assumes nothing.
-use mathlib.Core.Path.{_≡_, refl, sym, _∙_}
-use Prim.Native.Nat.{_+_, _-_, _/_, _≤_, _<_}
+use mathlib.Core.Path.{sym, _∙_}
+use Prim.Native.Nat.{_+_, _-_, _/_}
 use native.Mathlib.Omega.{arith}
-use lib.ListN.{length}
 use borrow.Author.Needs.{needs}
 use Rattle.rows.proofs.Laws.{Found, row-found, row-there}
 use Rattle.skipper.proofs.Falls.{Up, up-none, up-more, up-full, up-all}
