@@ -100,9 +100,6 @@ tables = {"readings": by_names(read, ATOMIC), "searches": by_names(searched, NOR
 for type_ in (NORMAL, ATOMIC, COMPOUND):
     for name, k in (("opt", OPT), ("rep", REP), ("pos", POS), ("neg", NEG), ("push", PUSH)):
         tables["%s-%d" % (name, type_)] = nested([k] * 4095, type_)
-    tables["opt-push-%d" % type_] = nested([OPT] * 2046, type_, [leaf(0), (PUSH, 0, 0, 2)])
-    tables["neg-push-%d" % type_] = nested([NEG] * 4094, type_, [leaf(0), (PUSH, 0, 0, 2)])
-    tables["neg-loop-%d" % type_] = nested([NEG] * 4090, type_, [leaf(0), (NEG, 0, 0, 2), (IDENT, 3, 3, 1), (SEQ, 0, 0, 4), (REP, 0, 0, 5)])
     for name, kinds in (("seq", [SEQ] * 2047), ("choice", [CHOICE] * 2047), ("both", [SEQ, CHOICE] * 1023)):
         tables["left-%s-%d" % (name, type_)] = left(kinds, type_)
         tables["right-%s-%d" % (name, type_)] = right(kinds, type_)
@@ -115,6 +112,8 @@ for type_ in (NORMAL, ATOMIC, COMPOUND):
         for name, kinds in (("seq", [SEQ] * 2043), ("choice", [CHOICE] * 2043), ("both", [SEQ, CHOICE] * 1021)):
             tables["left-%s-%s-%d" % (name, what, type_)] = left(kinds, type_, low)
             tables["right-%s-%s-%d" % (name, what, type_)] = right(kinds, type_, low)
+        tables["opt-%s-%d" % (what, type_)] = nested([OPT] * 2040, type_, low)
+        tables["neg-%s-%d" % (what, type_)] = nested([NEG] * 4085, type_, low)
         for two in (SEQ, CHOICE):
             tables["turns-%d-%s-%d" % (two, what, type_)] = in_turns(OPT, two, True, type_, low, 1360)
 os.makedirs(sys.argv[1], exist_ok=True)
