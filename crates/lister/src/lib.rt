@@ -19,7 +19,7 @@ use writing::Place;
 use writing::Wrote;
 
 // Copies n words down, from `from` to `to`; the two runs may overlap.
-pub fn move_down(out: &mut [u32], to: usize, from: usize, n: usize)
+fn move_down(out: &mut [u32], to: usize, from: usize, n: usize)
     requires { ⌜ (to ≤ from) × (from + n ≤ length (now out)) ⌝ }
     ensures { λ _. ⌜ now (out .exit) ≡ stored (now (out .entry)) to (take n (drop from (now (out .entry)))) ⌝ }
 {
@@ -31,7 +31,7 @@ pub fn move_down(out: &mut [u32], to: usize, from: usize, n: usize)
 }
 
 // Moves the rows from `from` to s up past the two rows before them, which come after them anew, and ends a Seq of m rows.
-pub fn mend(out: &mut [u32], from: usize, s: Place, n: u32, m: u32) -> Wrote
+fn mend(out: &mut [u32], from: usize, s: Place, n: u32, m: u32) -> Wrote
     requires { ⌜ Movable from (s .rows) (now out) ⌝ }
     requires { ⌜ n + 1 < 2 ^ 32 ⌝ }
     ensures { λ a. ⌜ MendedAnswer a s from n m (now (out .entry)) (now (out .exit)) ⌝ }
@@ -44,7 +44,7 @@ pub fn mend(out: &mut [u32], from: usize, s: Place, n: u32, m: u32) -> Wrote
 }
 
 // Whether the subtrees of rows i and j are (a~b)* and a.
-pub fn loops(rows: &[u32], text: &[u8], i: usize, j: usize) -> bool
+fn loops(rows: &[u32], text: &[u8], i: usize, j: usize) -> bool
     requires { ⌜ StandsIn (now rows) i (length (now text)) ⌝ }
     requires { ⌜ StandsIn (now rows) j (length (now text)) ⌝ }
     ensures { λ b. ⌜ ((l r : Expr Span) → At (now (rows .entry)) i l → At (now (rows .entry)) j r → Tells b (Loops (resolve (now (text .entry)) l) (resolve (now (text .entry)) r))) ⌝ }
@@ -88,7 +88,7 @@ pub fn loops(rows: &[u32], text: &[u8], i: usize, j: usize) -> bool
 }
 
 // Ends a node of two children that stand from p to q and from q to s.
-pub fn finish(out: &mut [u32], lits: &[u8], p: Place, q: Place, s: Place, kind: u32) -> Wrote
+fn finish(out: &mut [u32], lits: &[u8], p: Place, q: Place, s: Place, kind: u32) -> Wrote
     requires { ⌜ Pairs p q s (now out) (now lits) ⌝ }
     ensures { λ a. ⌜ ((b : Bin) (e f : E) → kind ≡ binKind b → Pair p q s e f (now (out .entry)) (now (lits .entry)) → KeptAnswer a p (orSame list? (bin b e f)) (now (out .entry)) (now (out .exit)) (now (lits .entry)) (now (lits .entry))) ⌝ }
 {
@@ -106,7 +106,7 @@ pub fn finish(out: &mut [u32], lits: &[u8], p: Place, q: Place, s: Place, kind: 
 }
 
 // Whether the Seq of row i begins with a loop that is listed.
-pub fn fires(rows: &[u32], text: &[u8], i: usize) -> bool
+fn fires(rows: &[u32], text: &[u8], i: usize) -> bool
     requires { ⌜ Inside (now rows) (length (now text)) ⌝ }
     requires { ⌜ Stands (now rows) i ⌝ }
     requires { ⌜ kindAt (now rows) i ≡ 8 ⌝ }
@@ -122,7 +122,21 @@ pub fn fires(rows: &[u32], text: &[u8], i: usize) -> bool
     else {
         return true;
     };
-    loops(rows, text, right - rows::wide(n), right)
+    let left = right - rows::wide(n);
+    let Lookup::Row {
+        kind: first,
+        x: _,
+        y: _,
+        size: _,
+    } = rows::row_at(rows, left)
+    else {
+        return true;
+    };
+    // nearly every Seq, and no call
+    if first != 11 {
+        return false;
+    }
+    loops(rows, text, left, right)
 }
 
 // Whether some Seq of the subtree of row `root` does.
@@ -153,14 +167,7 @@ pub fn any_fires(rows: &[u32], text: &[u8], root: usize) -> bool
 }
 
 // Writes the listed subtree of row `root` node by node at p, its literals packed.
-pub fn walk(
-    rows: &[u32],
-    text: &[u8],
-    root: usize,
-    out: &mut [u32],
-    lits: &mut [u8],
-    p: Place,
-) -> Wrote
+fn walk(rows: &[u32], text: &[u8], root: usize, out: &mut [u32], lits: &mut [u8], p: Place) -> Wrote
     requires { ⌜ Inside (now rows) (length (now text)) ⌝ }
     requires { ⌜ Ready (now rows) (now text) root p (now out) (now lits) ⌝ }
     requires { ⌜ Areas (now out) (now lits) ⌝ }
