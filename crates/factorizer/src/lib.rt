@@ -128,7 +128,7 @@ fn fires(rows: &[u32], text: &[u8], i: usize, tight: bool) -> bool
 {
     let right = i - 1;
     let Lookup::Row {
-        kind: _,
+        kind: second,
         x: _,
         y: _,
         size: n,
@@ -137,6 +137,21 @@ fn fires(rows: &[u32], text: &[u8], i: usize, tight: bool) -> bool
         return true;
     };
     let left = right - rows::wide(n);
+    let Lookup::Row {
+        kind: first,
+        x: _,
+        y: _,
+        size: _,
+    } = rows::row_at(rows, left)
+    else {
+        return true;
+    };
+    // most have no Seq on either side, and need no call
+    if first != 8 {
+        if second != 8 {
+            return false;
+        }
+    }
     match case_of(rows, text, left, right, tight) {
         Case::Heads { a: _, b: _, c: _ } => true,
         Case::Tail { a: _, b: _ } => true,
