@@ -61,7 +61,7 @@ returns-2 : tie.Need-returns-2
 returns-2 c = λ e. absurd (false≢true (sym e))
 
 returns-3 : tie.Need-returns-3
-returns-3 c = let s = c .before .before .before .before .before .before .before .before .before .before .before .before .before in λ e x a. let v = as-choice a (s .pre .1 .1) in choice-idle (s .args .tight) (s .args .text .now) v (plain-other _ _ _ (v .left) (v .right) (two-none _ 8 (row-found (sym (c .before .before .before .before .before .row-at2 .ensures) ∙ c .before .before .before .first .given .1)) (left-at (c .before .before .before .before .before .before) v) (c .before .if1 .taken)) (two-none _ 8 (found (c .before .before .before .before .before .before .before)) (v .atRight) (c .if2 .taken)))
+returns-3 c = let s = c .before .before .before .before .before .before .before .before .before .before .before .before .before in λ e x a. let v = as-choice a (s .pre .1 .1) in choice-idle (s .args .tight) (s .args .text .now) v (plain-other _ (s .args .rows .now) _ (v .left) (v .right) (two-none (s .args .text .now) 8 (row-found (sym (c .before .before .before .before .before .row-at2 .ensures) ∙ c .before .before .before .first .given .1)) (left-at (c .before .before .before .before .before .before) v) (c .before .if1 .taken)) (two-none (s .args .text .now) 8 (found (c .before .before .before .before .before .before .before)) (v .atRight) (c .if2 .taken)))
 
 case-of-requires : tie.Need-case-of-requires
 case-of-requires c κs = let s = c .before .before .before .before .before .before .before .before .before .before .before .before in let v = here s in (s .pre .0, (record { tree = v .left; at = left-at (c .before .before .before .before .before) v }, record { tree = v .right; at = v .atRight }))
