@@ -16,7 +16,7 @@ use rows::wide;
 use writing::Place;
 use writing::Wrote;
 
-// The subtree of row `root` by a step, packed at p.
+// The subtree of row `root`, of rule i, by a step, packed at p.
 pub fn walk(
     step: u32,
     kind: u32,
@@ -26,6 +26,7 @@ pub fn walk(
     marks: &[u32],
     rows: &[u32],
     text: &[u8],
+    i: usize,
     root: usize,
     out: &mut [u32],
     lits: &mut [u8],
@@ -56,7 +57,7 @@ pub fn walk(
         4 => concatenator::concatenate(rows, text, root, kind, out, lits, p),
         5 => factorizer::factor(rows, text, root, kind, out, lits, p),
         6 => lister::list(rows, text, root, out, lits, p),
-        7 => restorer::restore(heads0, marks, rows, text, root, out, lits, p),
+        7 => restorer::restore(heads0, marks, rows, text, i, root, out, lits, p),
         _ => writing::copy(rows, text, root, out, lits, p),
     }
 }
@@ -125,6 +126,7 @@ pub fn one_rule(
         marks,
         rows,
         text,
+        i,
         root,
         out,
         lits,

@@ -236,4 +236,4 @@ settling-next {rules} {rows} {text} {m} {m₁} {m₂} {i} inv lt s z f =
     go t l j h a (no k) = let e : j ≡ i = omega arith in rw e (a .here)
 
 pub settling-end : {rules rows : List ℕ} {text : Bytes} {m m₁ : List ℕ} {i : ℕ} → Settling rules rows text m m₁ i → length rules / 4 ≤ i → Settles rules rows text m₁
-settling-end {text = text} inv le = record { settled = λ t l. record { right = inv .so t l .0 .right; done = λ j h. inv .so t l .1 j (omega (arith, count-resolved l text)) } }
+settling-end {text = text} inv le = record { settled = λ t l. record { right = inv .so t l .0 .right; done = λ j h. inv .so t l .1 j (omega (arith, count-resolved l text)) }; ended = inv .given .ended }

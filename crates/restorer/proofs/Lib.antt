@@ -9,3 +9,4 @@ pub mod Restores
 pub mod Climbs
 pub mod Stills
 pub mod Calms
+pub mod Unsets

@@ -44,7 +44,7 @@ pub same-name : (t : Table Bytes) (s : Bytes) (b : Bool) {x y x′ y′ : ℕ} �
 same-name t s b d e h = h ∙ ap₂ (λ (u v : ℕ). changes t (lit Ident (bytesAt s (u, v)))) d e
 
 module _ (t : Table Bytes) where
-  guarded-still : (g : Bool) (e : E) → changes t e ≡ false → guardedIf t g e ≡ e
+  pub guarded-still : (g : Bool) (e : E) → changes t e ≡ false → guardedIf t g e ≡ e
   guarded-still true e h = guarded-no t true e refl h
   guarded-still false e h = guarded-not t false e refl
 

@@ -52,6 +52,7 @@ pub record TreeRows (w : List ℕ) (from end : ℕ) : Type 0 where
   pub at : At w (end - 1) tree
   pub rows : from + size tree ≡ end
 
--- the marks settle the table that is lent
+-- the marks settle the table that is lent, and say where its rules end
 pub record Settles (rules rows : List ℕ) (text : Bytes) (marks : List ℕ) : Type 0 where
   pub settled : (t : Table Span) → Lent t rules rows → Settled (resolveTable text t) marks
+  pub ended : Ended rules marks

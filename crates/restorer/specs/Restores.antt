@@ -61,6 +61,10 @@ pub record RowIs (w : List ℕ) (i k x y : ℕ) : Type 0 where
   pub first : xAt w i ≡ x
   pub second : yAt w i ≡ y
 
+-- no row of a tree of n rows up to row i is a RestoreOnErr
+abbrev pub Unset : List ℕ → ℕ → ℕ → Type 0
+Unset w i n = (j : ℕ) → i < j + n → j ≤ i → kindAt w j ≡ 19 → ⊥
+
 -- the tree e stands at p, and b says whether the stack can change through it; or it does not fit
 pub record Shown (q p : Place) (b : Bool) (t : Table Bytes) (e : E) (o o′ l l′ : List ℕ) : Type 0 where
   pub written : Written q p e o o′ l l′

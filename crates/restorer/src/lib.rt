@@ -3,7 +3,7 @@ ghost use mathlib.Core.Path.{_≡_};
 ghost use mathlib.Core.Bool.{true, false, _||_};
 ghost use Prim.Native.Nat.{_+_, _-_, _*_, _/_, _^_, _≤_, _<_};
 ghost use lib.ListN.{length};
-ghost use Rattle.grammar.specs.Tree.{Expr};
+ghost use Rattle.grammar.specs.Tree.{Expr, size};
 ghost use Rattle.grammar.specs.Rows.{Span};
 ghost use Rattle.grammar.specs.Text.{resolve};
 ghost use Rattle.grammar.specs.Table.{Table, rowWords, resolveTable};
@@ -19,7 +19,7 @@ ghost use Rattle.names.specs.Names.{marked, Hashed};
 ghost use Rattle.restorer.specs.Search.{stateOf, Right, Answers, Looks, turnedTo, withTurned, Rested, RuleSettled};
 ghost use Rattle.restorer.specs.Lends.{Lent, Marked, Given, Steady, Ran, TreeRows, Settles};
 ghost use Rattle.restorer.specs.Walks.{stepFrom, recalled, GoesOn, Visited, Unseen};
-ghost use Rattle.restorer.specs.Restores.{isGuard, showsThrough, guardedIf, Sure, Known, RowIs, climbed, RestoredAnswer, Over, NodeAnswer, OverAnswer, Becomes, Climbable};
+ghost use Rattle.restorer.specs.Restores.{isGuard, showsThrough, guardedIf, Sure, Known, RowIs, Unset, climbed, RestoredAnswer, Over, NodeAnswer, OverAnswer, Becomes, Climbable};
 ghost use Rattle.chains.specs.Runs.{ups};
 use names::Found;
 use rows::Lookup;
@@ -607,12 +607,70 @@ fn alters(rules: &[u32], marks: &[u32], rows: &[u32], text: &[u8], root: usize) 
     false
 }
 
-// Step 7 on the subtree of row `root`, packed at p. The table is the one that is lent, and its rules are settled.
+// Whether no row of the subtree of row `root` is a RestoreOnErr.
+fn unset(rows: &[u32], root: usize) -> bool
+    requires { ⌜ Stands (now rows) root ⌝ }
+    ensures { λ b. ⌜ (b ≡ true → (r : Expr Span) → At (now (rows .entry)) root r → Unset (now (rows .entry)) root (size r)) ⌝ }
+{
+    let Lookup::Row {
+        kind: _,
+        x: _,
+        y: _,
+        size,
+    } = rows::row_at(rows, root)
+    else {
+        return false;
+    };
+    let mut i = root + 1 - wide(size);
+    while i <= root {
+        if rows[i * 4] == 19 {
+            return false;
+        }
+        i += 1;
+    }
+    true
+}
+
+// Whether the subtree of row `root` is rule i's, which is settled as one through which the stack cannot change, and no RestoreOnErr hides a change in it.
+fn settled_no(rules: &[u32], marks: &[u32], rows: &[u32], i: usize, root: usize) -> bool
+    requires { ⌜ length (now rules) / 4 * 4 ≤ length (now marks) ⌝ }
+    requires { ⌜ Stands (now rows) root ⌝ }
+    ensures { λ b. ⌜ (b ≡ true → (text : Bytes) (t : Table Span) (r : Expr Span) → Settles (now (rules .entry)) (now (rows .entry)) text (now (marks .entry)) → Lent t (now (rules .entry)) (now (rows .entry)) → At (now (rows .entry)) root r → steps.restore (resolveTable text t) (resolve text r) ≡ resolve text r) ⌝ }
+{
+    if i >= rules.len() / 4 {
+        return false;
+    }
+    let at = i * 4;
+    if marks[at + 1] != NO {
+        return false;
+    }
+    if wide(marks[at + 3]) != root + 1 {
+        return false;
+    }
+    unset(rows, root)
+}
+
+// Whether the marks or the rows show that restoring the subtree of row `root` leaves it as it is.
+fn stays(rules: &[u32], marks: &[u32], rows: &[u32], text: &[u8], i: usize, root: usize) -> bool
+    requires { ⌜ Marked (now rules) (now rows) (now text) (now marks) ⌝ }
+    requires { ⌜ Settles (now rules) (now rows) (now text) (now marks) ⌝ }
+    requires { ⌜ Stands (now rows) root ⌝ }
+    ensures { λ b. ⌜ (b ≡ true → (t : Table Span) (r : Expr Span) → Lent t (now (rules .entry)) (now (rows .entry)) → At (now (rows .entry)) root r → steps.restore (resolveTable (now (text .entry)) t) (resolve (now (text .entry)) r) ≡ resolve (now (text .entry)) r) ⌝ }
+{
+    // the names of a rule that is settled need no look
+    if settled_no(rules, marks, rows, i, root) {
+        return true;
+    }
+    !alters(rules, marks, rows, text, root)
+}
+
+// Step 7 on the subtree of row `root`, packed at p: fastest where it is rule i's. The table is the one that is lent, and its rules are settled.
 pub fn restore(
     rules: &[u32],
     marks: &[u32],
     rows: &[u32],
     text: &[u8],
+    i: usize,
     root: usize,
     out: &mut [u32],
     lits: &mut [u8],
@@ -625,7 +683,7 @@ pub fn restore(
     ensures { λ a. ⌜ ((t : Table Span) (r : Expr Span) → Lent t (now (rules .entry)) (now (rows .entry)) → At (now (rows .entry)) root r → Answer a p (steps.restore (resolveTable (now (text .entry)) t) (resolve (now (text .entry)) r)) (now (out .entry)) (now (out .exit)) (now (lits .entry)) (now (lits .exit))) ⌝ }
 {
     // nearly always: nothing can change the stack
-    if !alters(rules, marks, rows, text, root) {
+    if stays(rules, marks, rows, text, i, root) {
         return writing::copy(rows, text, root, out, lits, p);
     }
     let Restored::To(q, _) = put(rules, marks, rows, text, root, false, out, lits, p) else {

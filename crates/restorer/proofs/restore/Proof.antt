@@ -4,13 +4,12 @@ use Rattle.restorer.proofs.Showing.{sure, known}
 use Rattle.restorer.proofs.Restores.{no-room, wrote-done}
 use Rattle.restorer.proofs.Climbs.{unguarded}
 use Rattle.restorer.proofs.Stills.{answer-still}
-use borrow.Author.Tests.{not-true}
 use borrow.Author.Needs.{needs}
 use Rattle.restorer.proofs.restore.Statement.{statement}
 use Rattle.restorer.proofs.restore.Tie as tie
 
-alters-requires : tie.Need-alters-requires
-alters-requires c κs = let s = c .before .before .before .before .before .before in (known (s .pre .0) (s .pre .1 .0), s .pre .1 .1 .0)
+stays-requires : tie.Need-stays-requires
+stays-requires c κs = let s = c .before .before .before .before .before .before in (s .pre .0, (s .pre .1 .0, s .pre .1 .1 .0))
 
 copy-requires : tie.Need-copy-requires
 copy-requires c κs = let s = c .before .before .before .before .before .before .before .before .before .before in (s .pre .0 .inside, s .pre .1 .1)
@@ -22,7 +21,7 @@ same-length-2 : tie.Need-same-length-2
 same-length-2 c = search needs
 
 returns : tie.Need-returns
-returns c = λ u r l a. answer-still (c .before .before .before .before .copy .result) _ _ _ _ _ (c .before .before .before .before .before .before .before .before .alters .ensures (not-true _ (c .before .before .before .before .before .before .before .if1 .taken)) (resolveTable (c .before .before .before .before .before .before .before .before .before .before .before .before .before .before .before .args .text .now) u) r (sure (c .before .before .before .before .before .before .before .before .before .before .before .before .before .before .before .args .text .now) u l (c .before .before .before .before .before .before .before .before .before .before .before .before .before .before .before .args .marks .now) (c .before .before .before .before .before .before .before .before .before .before .before .before .before .before .before .pre .1 .0 .settled u l)) a) (c .before .before .before .before .copy .ensures r a)
+returns c = λ u r l a. answer-still (c .before .before .before .before .copy .result) _ _ _ _ _ (c .before .before .before .before .before .before .before .before .stays .ensures (c .before .before .before .before .before .before .before .if1 .taken) u r l a) (c .before .before .before .before .copy .ensures r a)
 
 put-requires : tie.Need-put-requires
 put-requires c κs = let s = c .before .before .before .before .before .before .before .before .before .before in (known (s .pre .0) (s .pre .1 .0), s .pre .1 .1)
@@ -55,7 +54,7 @@ pub restore-spec : {M : Type 1} → statement M
 restore-spec =
     tie.close
     (tie.spec
-    alters-requires
+    stays-requires
     copy-requires
     same-length
     same-length-2
