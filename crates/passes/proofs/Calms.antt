@@ -1,18 +1,17 @@
 -- Rules that a step leaves as they are, one after the other. Assumes nothing.
 use mathlib.Core.Path.{_≡_, refl, sym, ap, ap₂, _∙_, subst}
-use mathlib.Core.Bool.{Bool, true, false, not}
 use mathlib.Core.List.{List, [], _∷_, _++_, append-assoc, append-nil}
 use Prim.Native.Nat.{ℕ, _+_, _*_, _/_, _≤_, _<_}
 use native.Mathlib.Omega.{arith}
 use lib.ListN.{length, getD, length-append}
 use Rattle.grammar.specs.Basic.{Bytes}
-use Rattle.grammar.specs.Tree.{E, Expr, size}
+use Rattle.grammar.specs.Tree.{E, size}
 use Rattle.grammar.specs.Rows.{Span}
 use Rattle.grammar.specs.Text.{resolve}
 use Rattle.grammar.specs.Table.{Rule, Table, ruleWords, rowWords, rowCount, resolveRule, resolveTable}
-use Rattle.grammar.specs.Steps.{each, onRule}
+use Rattle.grammar.specs.Steps.{each}
 use Rattle.rows.specs.Rows.{At}
-use Rattle.passes.specs.Passes.{stepOf, Holds}
+use Rattle.passes.specs.Passes.{Holds}
 use Rattle.passes.proofs.Tables.{count-append, resolve-append, each-append, rules-length}
 use Rattle.passes.proofs.Progress.{rule-word, at-rule, rows-length}
 

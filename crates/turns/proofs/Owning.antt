@@ -1,9 +1,9 @@
 -- A step on a packed table that looks into that table alone, and its marks. Assumes nothing.
-use mathlib.Core.Path.{_≡_, refl, sym, ap, ap₂, _∙_, subst}
+use mathlib.Core.Path.{_≡_, refl, subst}
 use mathlib.Core.List.{List}
-use Prim.Native.Nat.{ℕ, _*_, _/_, _^_, _≤_, _<_}
+use Prim.Native.Nat.{ℕ, _*_, _≤_}
 use native.Mathlib.Omega.{arith}
-use lib.ListN.{length, take, length-take}
+use lib.ListN.{length, take}
 use Rattle.grammar.specs.Basic.{Bytes}
 use Rattle.grammar.specs.Rows.{Span}
 use Rattle.grammar.specs.Table.{Table, packedFrom, resolveTable, tableText}
@@ -12,8 +12,8 @@ use Rattle.names.specs.Names.{Hashed}
 use Rattle.writing.specs.declared.Place.{Place}
 use Rattle.writing.specs.declared.Wrote.{Wrote}
 use Rattle.restorer.specs.Lends.{Marked}
-use Rattle.passes.specs.Passes.{stepOf, Asks, AsksAll, Lent, Holds, Front, TableFits, PassAnswer}
-use Rattle.turns.specs.Chain.{Sized, Turning, Works, Stands, Restorable, Owns, after}
+use Rattle.passes.specs.Passes.{stepOf, AsksAll, Lent, Holds, Front, TableFits, PassAnswer}
+use Rattle.turns.specs.Chain.{Turning, Works, Stands, Restorable, Owns, after}
 use Rattle.turns.proofs.Fronts.{front-is, front-within}
 use Rattle.turns.proofs.Turns.{holds-part}
 use Rattle.turns.proofs.Asking.{asks-all}

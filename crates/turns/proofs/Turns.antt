@@ -1,5 +1,5 @@
 -- A turn is a pass over the parts that hold the packed table. Assumes nothing.
-use mathlib.Core.Path.{_≡_, refl, sym, ap, _∙_, subst}
+use mathlib.Core.Path.{_≡_, sym, ap, _∙_, subst}
 use mathlib.Core.List.{List}
 use Prim.Native.Nat.{ℕ, _*_, _≤_}
 use native.Mathlib.Omega.{arith}
@@ -7,14 +7,13 @@ use lib.ListN.{length, take}
 use lib.Seq.{length-take-le, take-at}
 use Rattle.grammar.specs.Basic.{Bytes}
 use Rattle.grammar.specs.Tree.{E}
-use Rattle.grammar.specs.Rows.{Span}
 use Rattle.grammar.specs.Table.{Table, packedFrom, resolveTable, tableText}
 use Rattle.grammar.specs.Steps.{each, restore}
 use Rattle.grammar.specs.Optimize.{over}
 use Rattle.writing.specs.declared.Place.{Place}
 use Rattle.writing.specs.declared.Wrote.{Wrote}
 use Rattle.packing.specs.Packing.{Covers}
-use Rattle.passes.specs.Passes.{AsksAll, Lent, Holds, Front, Passing, TableFits, PassAnswer, stepOf}
+use Rattle.passes.specs.Passes.{AsksAll, Holds, Front, Passing, TableFits, PassAnswer, stepOf}
 use Rattle.turns.specs.Chain.{Turning, after}
 use Rattle.turns.proofs.Fronts.{holds-front, front-is, front-within}
 

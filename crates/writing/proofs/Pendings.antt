@@ -5,20 +5,20 @@ use Prim.Native.Nat.{ℕ, suc, _+_, _-_, _*_, _/_, _≤_, _<_}
 use native.Mathlib.Nat.{add-zero}
 use native.Mathlib.Numerals.{add-one}
 use native.Mathlib.Omega.{arith}
-use lib.ListN.{length, take, drop, set, length-append}
+use lib.ListN.{length, getD, take, drop, set, length-append}
 use lib.Seq.{take-add, drop-drop, set-set, set-comm}
 use Rattle.grammar.specs.Basic.{Bytes}
 use Rattle.grammar.specs.Rows.{row}
 use Rattle.grammar.specs.Text.{bytesAt}
 use Rattle.rows.specs.declared.Shape.the-variants.{Lit}
-use Rattle.rows.specs.Rows.{shapeOf}
+use Rattle.rows.specs.Rows.{kindAt, xAt, yAt, sizeAt, shapeOf}
 use Rattle.rows.proofs.Laws.{Found, length-part}
 use Rattle.writing.specs.declared.Place.{Place}
 use Rattle.writing.specs.declared.Run.{Run}
 use Rattle.writing.specs.declared.Ran.{Ran}
 use Rattle.writing.specs.declared.Ran.the-variants.{Done, Full}
 use Rattle.writing.specs.Writes.{stored, Put}
-use Rattle.writing.specs.Copies.{rowText, runText, runWords, Runs, Pending, RanAnswer, Moved, MovedAnswer}
+use Rattle.writing.specs.Copies.{rowText, rowWords, runText, runWords, Begins, Runs, Pending, RanAnswer, Moved, MovedAnswer}
 use Rattle.writing.proofs.Runs.{length-stored, stored-none, stored-then}
 use Rattle.writing.proofs.Copies.{lit-text, lit-words, other-text, other-words, text-append, text-more, words-more, length-words}
 
@@ -103,18 +103,30 @@ offset-set l i k x y n v =
     ∙ ap (λ (z : List ℕ). set z (suc (suc (suc i))) n) (set-comm (set c (suc i) x) (suc (suc i)) (suc i) y v (λ e. omega (arith, e)))
     ∙ ap (λ (z : List ℕ). set (set z (suc (suc i)) y) (suc (suc (suc i))) n) (set-set c (suc i) x v)
 
--- one row
-module _ (s : Bytes) {w : List ℕ} {i k x y n : ℕ} (f : Found w i k x y n) {o : ℕ} {bs t t′ : List ℕ} where
-  pub lit-moved : {g h : Run} (j : ℕ) (u u₁ u′ t″ : List ℕ) → shapeOf k ≡ Lit → x + y ≤ length s → Pending g o s bs t t′ → Pending h o s (bs ++ bytesAt s (x, y)) t t″
-      → u₁ ≡ stored u (j * 4) (row (k, x, y) n) → u′ ≡ set u₁ (j * 4 + 1) (g .at + g .size) → Moved h o s w i j bs u u′ t t″
-  lit-moved {g} {h} j u u₁ u′ t″ c l p q d e = record {
-    words = e ∙ rw (d, lit-words s f (o + length bs) c, length-part s x y l, ← (pending-end p)) (offset-set u (j * 4) k x y n (g .at + g .size));
+-- the row that begins at word `at`
+pub word-found : (w : List ℕ) (at i : ℕ) → at ≡ i * 4 → Begins at w → Found w i (getD w at 0) (getD w (at + 1) 0) (getD w (at + 2) 0) (getD w (at + 3) 0)
+unfolding kindAt xAt yAt sizeAt
+word-found w at i e b =
+    record {
+      within = omega (arith, e, b .is, b .within);
+      kind = ap (λ (k : ℕ). getD w k 0) (sym e);
+      x = ap (λ (k : ℕ). getD w (k + 1) 0) (sym e);
+      y = ap (λ (k : ℕ). getD w (k + 2) 0) (sym e);
+      rows = ap (λ (k : ℕ). getD w (k + 3) 0) (sym e);
+    }
+
+-- one row, written from word `to` on
+module _ (s : Bytes) {w : List ℕ} {i k x y n : ℕ} (f : Found w i k x y n) {o : ℕ} {bs t t′ : List ℕ} (to j : ℕ) (m : to ≡ j * 4) (u : List ℕ) where
+  pub lit-moved : {g h : Run} (u₁ u′ t″ : List ℕ) → shapeOf k ≡ Lit → x + y ≤ length s → Pending g o s bs t t′ → Pending h o s (bs ++ bytesAt s (x, y)) t t″
+      → u₁ ≡ stored u to (row (k, x, y) n) → u′ ≡ set u₁ (to + 1) (g .at + g .size) → Moved h o s w i j bs u u′ t t″
+  lit-moved {g} {h} u₁ u′ t″ c l p q d e = record {
+    words = e ∙ rw (d, lit-words s f (o + length bs) c, length-part s x y l, ← (pending-end p)) (offset-set u to k x y n (g .at + g .size)) ∙ ap (λ (z : ℕ). stored u z (rowWords (o + length bs) s w i)) m;
     pending = rw (lit-text s f c) q;
   }
 
-  pub other-moved : {g : Run} (j : ℕ) (u u′ : List ℕ) → (shapeOf k ≡ Lit → ⊥) → Pending g o s bs t t′ → u′ ≡ stored u (j * 4) (row (k, x, y) n) → Moved g o s w i j bs u u′ t t′
-  other-moved {g} j u u′ c p e = record {
-    words = rw (other-words s f (o + length bs) c) e;
+  pub other-moved : {g : Run} (u′ : List ℕ) → (shapeOf k ≡ Lit → ⊥) → Pending g o s bs t t′ → u′ ≡ stored u to (row (k, x, y) n) → Moved g o s w i j bs u u′ t t′
+  other-moved {g} u′ c p e = record {
+    words = rw (other-words s f (o + length bs) c, ← m) e;
     pending = rw (other-text s f c, append-nil) p;
   }
 
@@ -147,3 +159,11 @@ module _ {g : Run} {o : ℕ} {s w : List ℕ} {i j k : ℕ} {u u′ t t′ : Lis
     words = rw (er, et) (m .words);
     bytes = rw et (pending-copied (m .pending) t″ e);
   }
+
+-- the same, with k read off the word that comes next
+pub record MovingAt (g : Run) (o : ℕ) (s w : List ℕ) (i n j from to : ℕ) (u u′ t t′ : List ℕ) : Type 0 where
+  pub count : ℕ
+  pub most : count ≤ n
+  pub source : from ≡ (i + count) * 4
+  pub target : to ≡ (j + count) * 4
+  pub moving : Moving g o s w i j count u u′ t t′

@@ -1,7 +1,7 @@
 -- A run of rows with its literals packed, whatever trees they are of; literals that stand side by side are copied as one. Assumes nothing.
 use mathlib.Core.Path.{_≡_}
 use mathlib.Core.List.{List, [], _++_}
-use Prim.Native.Nat.{ℕ, zero, suc, _+_, _*_, _≤_}
+use Prim.Native.Nat.{ℕ, zero, suc, _+_, _*_, _/_, _≤_, _<_}
 use lib.ListN.{length}
 use Rattle.grammar.specs.Basic.{Bytes}
 use Rattle.grammar.specs.Rows.{row}
@@ -45,6 +45,12 @@ runText t w i (suc n) = rowText t w i ++ runText t w (i + 1) n
 abbrev pub runWords : ℕ → Bytes → List ℕ → ℕ → ℕ → List ℕ
 runWords o t w i zero = []
 runWords o t w i (suc n) = rowWords o t w i ++ runWords (o + length (rowText t w i)) t w (i + 1) n
+
+-- a row of the words w begins at word `at`
+pub record Begins (at : ℕ) (w : List ℕ) : Type 0 where
+  pub row : ℕ
+  pub is : at ≡ row * 4
+  pub within : row < length w / 4
 
 -- a run that lies in the text s, and fits in the area t
 pub record Runs (g : Run) (s t : List ℕ) : Type 0 where

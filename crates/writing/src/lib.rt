@@ -9,7 +9,7 @@ ghost use Rattle.grammar.specs.Text.{bytesAt, resolve};
 ghost use Rattle.rows.specs.Rows.{Inside, At, AtStrs, Stands};
 ghost use Rattle.writing.specs.Writes.{stored, Areas, Room, PutAnswer, RowAnswer, LitAnswer, StandStrs, StrsAnswer, Answer};
 ghost use Rattle.writing.specs.Keeps.{KeptAnswer, Ready};
-ghost use Rattle.writing.specs.Copies.{runText, runWords, Runs, Pending, RanAnswer, MovedAnswer};
+ghost use Rattle.writing.specs.Copies.{runText, runWords, Begins, Runs, Pending, RanAnswer, MovedAnswer};
 use rows::Lookup;
 use rows::Shape;
 
@@ -37,24 +37,31 @@ pub fn copy_bytes(src: &[u8], x: usize, n: usize, dst: &mut [u8], at: usize)
     }
 }
 
-// Writes row i, where there is room for it.
-pub fn set_row(out: &mut [u32], i: usize, kind: u32, x: u32, y: u32, size: u32)
-    requires { ⌜ i < length (now out) / 4 ⌝ }
-    ensures { λ _. ⌜ now (out .exit) ≡ stored (now (out .entry)) (i * 4) (row (kind, x, y) size) ⌝ }
+// Writes the four words of a row from word `at` on.
+fn set_words(out: &mut [u32], at: usize, kind: u32, x: u32, y: u32, size: u32)
+    requires { ⌜ at + 4 ≤ length (now out) ⌝ }
+    ensures { λ _. ⌜ now (out .exit) ≡ stored (now (out .entry)) at (row (kind, x, y) size) ⌝ }
 {
-    let at = i * 4;
     out[at] = kind;
     out[at + 1] = x;
     out[at + 2] = y;
     out[at + 3] = size;
 }
 
-// Writes the offset of row i.
-fn set_offset(out: &mut [u32], i: usize, x: u32)
-    requires { ⌜ i < length (now out) / 4 ⌝ }
-    ensures { λ _. ⌜ now (out .exit) ≡ set (now (out .entry)) (i * 4 + 1) x ⌝ }
+// Writes the offset of the row that begins at word `at`.
+fn set_offset(out: &mut [u32], at: usize, x: u32)
+    requires { ⌜ at + 4 ≤ length (now out) ⌝ }
+    ensures { λ _. ⌜ now (out .exit) ≡ set (now (out .entry)) (at + 1) x ⌝ }
 {
-    out[i * 4 + 1] = x;
+    out[at + 1] = x;
+}
+
+// Writes row i, where there is room for it.
+pub fn set_row(out: &mut [u32], i: usize, kind: u32, x: u32, y: u32, size: u32)
+    requires { ⌜ i < length (now out) / 4 ⌝ }
+    ensures { λ _. ⌜ now (out .exit) ≡ stored (now (out .entry)) (i * 4) (row (kind, x, y) size) ⌝ }
+{
+    set_words(out, i * 4, kind, x, y, size);
 }
 
 // Writes one row at p.
@@ -137,34 +144,34 @@ fn next_lit(text: &[u8], x: usize, n: usize, lits: &mut [u8], g: Run) -> Ran
     })
 }
 
-// Writes row i of a table as row j, its literal packed after the run.
+// Writes the row that begins at word `from` of a table to word `to` on, its literal packed after the run.
 fn copy_row(
     rows: &[u32],
     text: &[u8],
-    i: usize,
+    from: usize,
     out: &mut [u32],
-    j: usize,
+    to: usize,
     lits: &mut [u8],
     g: Run,
 ) -> Ran
-    requires { ⌜ (i < length (now rows) / 4) × (j < length (now out) / 4) ⌝ }
+    requires { ⌜ Begins from (now rows) ⌝ }
+    requires { ⌜ Begins to (now out) ⌝ }
     requires { ⌜ Inside (now rows) (length (now text)) ⌝ }
     requires { ⌜ Runs g (now text) (now lits) ⌝ }
     requires { ⌜ length (now lits) < 2 ^ 32 ⌝ }
-    ensures { λ a. ⌜ ((o : ℕ) (bs t : List ℕ) → Pending g o (now (text .entry)) bs t (now (lits .entry)) → MovedAnswer a o (now (text .entry)) (now (rows .entry)) i j bs (now (out .entry)) (now (out .exit)) t (now (lits .exit))) ⌝ }
+    ensures { λ a. ⌜ ((i j o : ℕ) (bs t : List ℕ) → from ≡ i * 4 → to ≡ j * 4 → Pending g o (now (text .entry)) bs t (now (lits .entry)) → MovedAnswer a o (now (text .entry)) (now (rows .entry)) i j bs (now (out .entry)) (now (out .exit)) t (now (lits .exit))) ⌝ }
 {
-    let from = i * 4;
     let kind = rows[from];
     let x = rows[from + 1];
     let y = rows[from + 2];
-    set_row(out, j, kind, x, y, rows[from + 3]);
+    set_words(out, to, kind, x, y, rows[from + 3]);
     if let Shape::Lit = rows::shape_of(kind) {
         let end = g.at + g.size;
         let Ran::Done(h) = next_lit(text, x as usize, y as usize, lits, g) else {
             return Ran::Full;
         };
         // the four words go as one, and a literal's offset after them
-        set_offset(out, j, end as u32);
+        set_offset(out, to, end as u32);
         Ran::Done(h)
     } else {
         Ran::Done(g)
@@ -195,13 +202,16 @@ fn copy_rows(
         size: 0,
         at: p.text,
     };
-    let mut k = 0;
-    while k < n {
-        let Ran::Done(h) = copy_row(rows, text, i + k, out, first + k, lits, g) else {
+    let mut from = i * 4;
+    let mut to = first * 4;
+    let end = (i + n) * 4;
+    while from < end {
+        let Ran::Done(h) = copy_row(rows, text, from, out, to, lits, g) else {
             return Wrote::Full;
         };
         g = h;
-        k += 1;
+        from += 4;
+        to += 4;
     }
     copy_bytes(text, g.from, g.size, lits, g.at);
     Wrote::Done(Place {

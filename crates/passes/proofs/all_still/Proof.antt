@@ -1,7 +1,7 @@
-use mathlib.Core.Path.{_≡_, refl, ap, _∙_, subst}
+use mathlib.Core.Path.{_≡_, refl, subst}
 use mathlib.Core.Bool.{false≢true}
 use mathlib.Core.List.{[]}
-use Prim.Native.Nat.{ℕ, _+_, _-_, _*_, _/_, _≤_, _<_}
+use Prim.Native.Nat.{ℕ, _+_, _-_, _/_}
 use native.Mathlib.Omega.{arith}
 use lib.ListN.{length}
 use borrow.Author.Needs.{needs}
@@ -13,7 +13,7 @@ use Rattle.grammar.specs.Text.{resolve}
 use Rattle.grammar.specs.Table.{Table}
 use Rattle.grammar.proofs.TopDown.{size-pos}
 use Rattle.passes.specs.Passes.{stepOf, Holds}
-use Rattle.passes.proofs.Calms.{Calm, Following, calm-start, following, calm-all}
+use Rattle.passes.proofs.Calms.{Calm, calm-start, following, calm-all}
 use Rattle.passes.proofs.all_still.Statement.{statement}
 use Rattle.passes.proofs.all_still.Tie as tie
 

@@ -1,5 +1,4 @@
 use mathlib.Core.Path.{refl}
-use native.Mathlib.Omega.{arith}
 use Rattle.turns.proofs.Sizes.{sized-same, done-front, first-large, second-large, pair-ran, few-after, count-after}
 use Rattle.turns.proofs.Owning.{owns-six, stands-after}
 use borrow.Author.Needs.{needs}

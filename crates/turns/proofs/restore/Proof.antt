@@ -1,5 +1,5 @@
 use Rattle.grammar.specs.Table.{packedFrom}
-use mathlib.Core.Path.{refl, sym}
+use mathlib.Core.Path.{sym}
 use native.Mathlib.Omega.{arith}
 use lib.Seq.{length-take-le}
 use Rattle.turns.proofs.Sizes.{front-few}

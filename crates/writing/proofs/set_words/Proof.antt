@@ -3,11 +3,8 @@ use native.Mathlib.Numerals.{towards-suc}
 use lib.ListN.{length-set}
 use Rattle.writing.specs.Writes.{stored}
 use borrow.Author.Needs.{needs}
-use Rattle.writing.proofs.set_row.Statement.{statement}
-use Rattle.writing.proofs.set_row.Tie as tie
-
-mul-at : tie.Need-mul-at
-mul-at c = search needs
+use Rattle.writing.proofs.set_words.Statement.{statement}
+use Rattle.writing.proofs.set_words.Tie as tie
 
 mul-out : tie.Need-mul-out
 mul-out c = search needs
@@ -49,11 +46,10 @@ returns : tie.Need-returns
 unfolding stored
 returns c = simp towards-suc
 
-pub set-row-spec : {M : Type 1} → statement M
-set-row-spec =
+pub set-words-spec : {M : Type 1} → statement M
+set-words-spec =
     tie.close
     (tie.spec
-    mul-at
     mul-out
     slice-write-out
     add-out
