@@ -22,13 +22,13 @@ fn name_length(n: u32) -> usize
 fn lit_length(kind: u32, y: u32) -> usize
     ensures { λ r. ⌜ (r ≡ litLength kind y) × (r < 2 ^ 32) ⌝ }
 {
-    if kind < 2 {
-        return y as usize;
+    if kind > 3 {
+        return 0;
     }
-    if kind == 3 {
-        return y as usize;
+    if kind == 2 {
+        return 0;
     }
-    0
+    y as usize
 }
 
 // The sum of the names' lengths.

@@ -84,6 +84,10 @@ fn x_fits(kind: u32, x: u32) -> bool
 fn unused_zero(kind: u32, x: u32, y: u32) -> bool
     ensures { λ r. ⌜ r ≡ unusedZero kind x y ⌝ }
 {
+    // a literal uses both
+    if kind < 4 {
+        return true;
+    }
     if y == 0 {
         return x_fits(kind, x);
     }
