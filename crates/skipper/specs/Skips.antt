@@ -8,19 +8,21 @@ use lib.ListN.{length}
 use Rattle.grammar.specs.Basic.{Bytes}
 use Rattle.grammar.specs.Tree.{Un, Expr, E, anyNode}
 use Rattle.grammar.specs.Rows.{Span}
-use Rattle.grammar.specs.Text.{resolve}
-use Rattle.grammar.specs.Table.{Table, resolveTable}
+use Rattle.grammar.specs.Text.{bytesAt, resolve}
+use Rattle.grammar.specs.Table.{Table, resolveTable, find}
 use Rattle.grammar.specs.Lists.{Reading, nothing, strings, again, readIn, readName, loopOver, skipList}
 use Rattle.grammar.specs.Steps.{topDown, orSame, skip?}
 use Rattle.rows.specs.declared.Shape.{Shape}
 use Rattle.rows.specs.declared.Shape.the-variants.{Lit, Num, One, Two, Skips}
-use Rattle.rows.specs.Rows.{At, shapeOf, kindAt}
+use Rattle.rows.specs.Rows.{At, shapeOf, kindAt, xAt, yAt}
+use Rattle.names.specs.declared.Found.{Found}
+use Rattle.names.specs.declared.Found.the-variants as found
 use Rattle.writing.specs.declared.Place.{Place}
 use Rattle.writing.specs.declared.Wrote.{Wrote}
 use Rattle.writing.specs.Writes.{Written, Answer}
 use Rattle.chains.specs.Runs.{wrap}
 use Rattle.skipper.specs.Memory.{Known, byMarks}
-use Rattle.skipper.specs.Lends.{marksOf, Lent}
+use Rattle.skipper.specs.Lends.{marksOf, Lent, Given}
 use Rattle.skipper.specs.Lists.{unreadAt}
 use Rattle.skipper.specs.declared.Loop.{Loop}
 use Rattle.skipper.specs.declared.Loop.the-variants.{Over, Nothing}
@@ -72,7 +74,26 @@ pub record Spelled (rules rows : List ℕ) (u : Bytes) (w : List ℕ) (s : Bytes
   pub list : List Bytes
   pub spells : Spells (resolveTable u table) n (λ look. read look (resolve s tree)) list
 
--- the same of a loop's expression
+-- the bytes of the literal at row i
+abbrev pub literalAt : List ℕ → Bytes → ℕ → Bytes
+literalAt w s i = bytesAt s (xAt w i, yAt w i)
+
+-- the rules of some rows are lent, with their marks
+pub record Named (rules : List ℕ) (u : Bytes) (m : List ℕ) : Type 0 where
+  pub rows : List ℕ
+  pub given : Given rules rows u m
+
+-- the expression that x names in the table t stands at row j
+pub record BodyAt (j : ℕ) (w : List ℕ) (u : Bytes) (t : Table Span) (x : Bytes) : Type 0 where
+  pub tree : Expr Span
+  pub at : At w j tree
+  pub is : find (resolveTable u t) x ≡ some (resolve u tree)
+
+abbrev pub BodyAnswer : Found → List ℕ → Bytes → Table Span → Bytes → Type 0
+BodyAnswer (found.At j) w u t x = BodyAt j w u t x
+BodyAnswer found.Nothing w u t x = find (resolveTable u t) x ≡ none
+
+-- some loop's expression stands at row i, and it has a list
 pub record Skipped (rules rows : List ℕ) (u : Bytes) (w : List ℕ) (s : Bytes) (i : ℕ) : Type 0 where
   pub table : Table Span
   pub lent : Lent rules rows table

@@ -13,8 +13,8 @@ ghost use Rattle.grammar.specs.Text.{bytesAt, resolve};
 ghost use Rattle.grammar.specs.Table.{Table, Rule, ruleWords, resolveRule, resolveTable};
 ghost use Rattle.grammar.specs.Lists.{strings, readLeft, readIn, loopOver, skipList};
 ghost use Rattle.grammar.specs.Steps.{rotate, isAtomic, topDown, orSame, skip?, skipTo};
-ghost use Rattle.rows.specs.Rows.{Inside, At, Stands, kindAt};
-ghost use Rattle.writing.specs.Writes.{Room, RowAnswer, StrsAnswer, Answer};
+ghost use Rattle.rows.specs.Rows.{Inside, At, Stands, kindAt, sizeAt};
+ghost use Rattle.writing.specs.Writes.{Room, RowAnswer, LitAnswer, StrsAnswer, Answer};
 ghost use Rattle.names.specs.Names.{First, Hashed, marked};
 ghost use Rattle.chains.specs.Runs.{wrap};
 ghost use Rattle.skipper.specs.Memory.{byMarks};
@@ -22,7 +22,7 @@ ghost use Rattle.skipper.specs.Lends.{marksOf, Given, Lent, Ran, ReadsOf
 ghost use Rattle.skipper.specs.Loops.{LoopAnswer, TreeRows, openAt, ruleOpen, LoopsOf};
 ghost use Rattle.skipper.specs.Lists.{ListsAnswer};
 ghost use Rattle.skipper.specs.declared.Node.the-variants.{Pair};
-ghost use Rattle.skipper.specs.Skips.{nodeOf, isList, ListAnswer, Spells, Spelled, Skipped, Settles, Settling, FallAnswer, Rising, RisenAnswer};
+ghost use Rattle.skipper.specs.Skips.{nodeOf, isList, ListAnswer, Spells, Spelled, literalAt, Named, BodyAnswer, Skipped, Settles, Settling, FallAnswer, Rising, RisenAnswer};
 use names::Found;
 use rows::Lookup;
 use rows::Shape;
@@ -477,6 +477,70 @@ fn list_at(
     }
 }
 
+// The kind of row i.
+fn kind_at(rows: &[u32], i: usize) -> u32
+    requires { ⌜ i < length (now rows) / 4 ⌝ }
+    ensures { λ k. ⌜ k ≡ kindAt (now (rows .entry)) i ⌝ }
+{
+    rows[i * 4]
+}
+
+// The row of what a Choice at `root` has on its left.
+fn left_of(rows: &[u32], root: usize) -> usize
+    requires { ⌜ Stands (now rows) root ⌝ }
+    requires { ⌜ kindAt (now rows) root ≡ 9 ⌝ }
+    ensures { λ i. ⌜ i ≡ root - 1 - sizeAt (now (rows .entry)) (root - 1) ⌝ }
+{
+    let right = root - 1;
+    right - wide(rows[right * 4 + 3])
+}
+
+// Writes the Str of row `root`.
+fn put_str(
+    rows: &[u32],
+    text: &[u8],
+    root: usize,
+    out: &mut [u32],
+    lits: &mut [u8],
+    p: Place,
+) -> Wrote
+    requires { ⌜ Inside (now rows) (length (now text)) ⌝ }
+    requires { ⌜ root < length (now rows) / 4 ⌝ }
+    requires { ⌜ kindAt (now rows) root ≡ 0 ⌝ }
+    requires { ⌜ Room p (now out) (now lits) ⌝ }
+    ensures { λ a. ⌜ LitAnswer a p 0 (literalAt (now (rows .entry)) (now (text .entry)) root) (now (out .entry)) (now (out .exit)) (now (lits .entry)) (now (lits .exit)) ⌝ }
+{
+    let at = root * 4;
+    let x = wide(rows[at + 1]);
+    let n = wide(rows[at + 2]);
+    writing::put_lit(text, x, n, 0, out, lits, p)
+}
+
+// The row of the expression of the rule that the Ident of row `root` names, in the table with the text `given_text`.
+fn body_of(
+    given_rules: &[u32],
+    given_text: &[u8],
+    marks: &[u32],
+    rows: &[u32],
+    text: &[u8],
+    root: usize,
+) -> Found
+    requires { ⌜ Named (now «given_rules») (now «given_text») (now marks) ⌝ }
+    requires { ⌜ Inside (now rows) (length (now text)) ⌝ }
+    requires { ⌜ root < length (now rows) / 4 ⌝ }
+    requires { ⌜ kindAt (now rows) root ≡ 3 ⌝ }
+    ensures { λ a. ⌜ ((w : List ℕ) (t : Table Span) → Lent (now («given_rules» .entry)) w t → BodyAnswer a w (now («given_text» .entry)) t (literalAt (now (rows .entry)) (now (text .entry)) root)) ⌝ }
+{
+    let at = root * 4;
+    let x = rows[at + 1];
+    let y = rows[at + 2];
+    let Found::At(i) = names::find_rule(given_rules, given_text, marks, text, wide(x), wide(y))
+    else {
+        return Found::Nothing;
+    };
+    Found::At(wide(marks[i * 4 + 3]) - 1)
+}
+
 // Writes the strings of a literal: itself, or those of the rule that it names, through at most `fuel` rules.
 fn write_leaf(
     given_rules: &[u32],
@@ -497,31 +561,18 @@ fn write_leaf(
     requires { ⌜ Room p (now out) (now lits) ⌝ }
     ensures { λ a. ⌜ ((t : Table Span) (r : Expr Span) (ss : List Bytes) → Lent (now («given_rules» .entry)) (now («given_rows» .entry)) t → At (now (rows .entry)) root r → Spells (resolveTable (now («given_text» .entry)) t) fuel (λ look. readLeft look (resolve (now (text .entry)) r)) ss → StrsAnswer a p ss (now (out .entry)) (now (out .exit)) (now (lits .entry)) (now (lits .exit))) ⌝ }
 {
-    let Lookup::Row {
-        kind,
-        x,
-        y,
-        size: _,
-    } = rows::row_at(rows, root)
-    else {
-        return Wrote::Full;
-    };
-    if kind == 0 {
-        return writing::put_lit(text, wide(x), wide(y), 0, out, lits, p);
+    if kind_at(rows, root) == 0 {
+        return put_str(rows, text, root, out, lits, p);
     }
-    let Found::At(i) = names::find_rule(given_rules, given_text, marks, text, wide(x), wide(y))
-    else {
+    let Found::At(body) = body_of(given_rules, given_text, marks, rows, text, root) else {
         return Wrote::Full;
     };
-    let end = wide(marks[i * 4 + 3]);
-    write_list(
+    write_rule(
         given_rules,
         given_rows,
         given_text,
         marks,
-        given_rows,
-        given_text,
-        end - 1,
+        body,
         fuel - 1,
         out,
         lits,
@@ -529,7 +580,58 @@ fn write_leaf(
     )
 }
 
-// Writes the strings of an expression that has a list, in reading order.
+// Writes the strings of a rule's expression, in reading order: a call for what a Choice has on its left, none for the last leaf.
+fn write_rule(
+    rules: &[u32],
+    rows: &[u32],
+    text: &[u8],
+    marks: &[u32],
+    root: usize,
+    fuel: usize,
+    out: &mut [u32],
+    lits: &mut [u8],
+    p: Place,
+) -> Wrote
+    requires { ⌜ Given (now rules) (now rows) (now text) (now marks) ⌝ }
+    requires { ⌜ Spelled (now rules) (now rows) (now text) (now rows) (now text) root fuel readIn ⌝ }
+    requires { ⌜ Room p (now out) (now lits) ⌝ }
+    ensures { λ a. ⌜ ((t : Table Span) (r : Expr Span) (ss : List Bytes) → Lent (now (rules .entry)) (now (rows .entry)) t → At (now (rows .entry)) root r → Spells (resolveTable (now (text .entry)) t) fuel (λ look. readIn look (resolve (now (text .entry)) r)) ss → StrsAnswer a p ss (now (out .entry)) (now (out .exit)) (now (lits .entry)) (now (lits .exit))) ⌝ }
+{
+    let mut at = root;
+    let mut left = fuel;
+    let mut q = p;
+    while kind_at(rows, at) != 0 {
+        if kind_at(rows, at) == 9 {
+            let leaf = left_of(rows, at);
+            let Wrote::Done(s) = write_leaf(
+                rules,
+                rows,
+                text,
+                marks,
+                rows,
+                text,
+                leaf,
+                left,
+                out,
+                lits,
+                q,
+            ) else {
+                return Wrote::Full;
+            };
+            q = s;
+            at -= 1;
+        } else {
+            let Found::At(body) = body_of(rules, text, marks, rows, text, at) else {
+                return Wrote::Full;
+            };
+            at = body;
+            left -= 1;
+        }
+    }
+    put_str(rows, text, at, out, lits, q)
+}
+
+// Writes the strings of a loop's expression that has a list, in reading order.
 fn write_list(
     given_rules: &[u32],
     given_rows: &[u32],
@@ -549,64 +651,36 @@ fn write_list(
     requires { ⌜ Room p (now out) (now lits) ⌝ }
     ensures { λ a. ⌜ ((t : Table Span) (r : Expr Span) (ss : List Bytes) → Lent (now («given_rules» .entry)) (now («given_rows» .entry)) t → At (now (rows .entry)) root r → Spells (resolveTable (now («given_text» .entry)) t) fuel (λ look. readIn look (resolve (now (text .entry)) r)) ss → StrsAnswer a p ss (now (out .entry)) (now (out .exit)) (now (lits .entry)) (now (lits .exit))) ⌝ }
 {
-    let Lookup::Row {
-        kind,
-        x: _,
-        y: _,
-        size: _,
-    } = rows::row_at(rows, root)
-    else {
-        return Wrote::Full;
-    };
-    if kind != 9 {
-        return write_leaf(
+    let mut at = root;
+    let mut q = p;
+    while kind_at(rows, at) == 9 {
+        let leaf = left_of(rows, at);
+        let Wrote::Done(s) = write_leaf(
             given_rules,
             given_rows,
             given_text,
             marks,
             rows,
             text,
-            root,
+            leaf,
             fuel,
             out,
             lits,
-            p,
-        );
+            q,
+        ) else {
+            return Wrote::Full;
+        };
+        q = s;
+        at -= 1;
     }
-    let right = root - 1;
-    let Lookup::Row {
-        kind: _,
-        x: _,
-        y: _,
-        size: n,
-    } = rows::row_at(rows, right)
-    else {
-        return Wrote::Full;
-    };
-    let left = right - wide(n);
-    let Wrote::Done(q) = write_leaf(
+    write_leaf(
         given_rules,
         given_rows,
         given_text,
         marks,
         rows,
         text,
-        left,
-        fuel,
-        out,
-        lits,
-        p,
-    ) else {
-        return Wrote::Full;
-    };
-    write_list(
-        given_rules,
-        given_rows,
-        given_text,
-        marks,
-        rows,
-        text,
-        right,
+        at,
         fuel,
         out,
         lits,
