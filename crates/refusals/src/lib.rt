@@ -2,7 +2,7 @@
 ghost use mathlib.Core.Path.{_≡_};
 ghost use mathlib.Core.Bool.{_||_};
 ghost use Prim.Native.Nat.{ℕ, _+_, _-_, _*_, _/_, _%_, _^_, _≤_, _<_};
-ghost use lib.ListN.{length, take, drop};
+ghost use lib.ListN.{length, take, drop, getD};
 ghost use lib.Dec.{eqb};
 ghost use Rattle.grammar.specs.Refusals.{badCounts, badSpan};
 ghost use Rattle.rows.specs.Rows.{Tells, kindAt};
@@ -257,6 +257,39 @@ fn next_high(text: &[u8], p: usize, stop: usize, other: usize) -> usize
     other
 }
 
+// The larger of two bytes.
+fn larger(a: u8, b: u8) -> u8
+    ensures { λ r. ⌜ (a ≤ r) × (b ≤ r) ⌝ }
+{
+    if a < b { b } else { a }
+}
+
+// A byte that no byte from p to stop is above. No test in the loop: many bytes go at a time.
+fn highest(text: &[u8], p: usize, stop: usize) -> u8
+    requires { ⌜ (p ≤ stop) × (stop ≤ length (now text)) ⌝ }
+    ensures { λ m. ⌜ ((j : ℕ) → p ≤ j → j < stop → getD (now (text .entry)) j 0 ≤ m) ⌝ }
+{
+    let mut m: u8 = 0;
+    let mut i = p;
+    while i < stop {
+        m = larger(m, text[i]);
+        i += 1;
+    }
+    m
+}
+
+// The same as `next_high`: most texts have no such byte.
+fn first_high(text: &[u8], p: usize, stop: usize, other: usize) -> usize
+    requires { ⌜ (p ≤ stop) × (stop ≤ length (now text)) ⌝ }
+    requires { ⌜ High (now text) stop other ⌝ }
+    ensures { λ r. ⌜ High (now (text .entry)) p r ⌝ }
+{
+    if highest(text, p, stop) < 128 {
+        return other;
+    }
+    next_high(text, p, stop, other)
+}
+
 // Writes for each 64 bytes of the text where the first byte above 127 from there on is; the first of all comes back.
 fn index_high(text: &[u8], marks: &mut [u32]) -> usize
     requires { ⌜ (length (now text) ≤ 65536) × (1024 ≤ length (now marks)) ⌝ }
@@ -267,7 +300,7 @@ fn index_high(text: &[u8], marks: &mut [u32]) -> usize
     let mut b = (stop + 63) / 64;
     while 0 < b {
         b -= 1;
-        next = next_high(text, b * 64, stop, next);
+        next = first_high(text, b * 64, stop, next);
         marks[b] = next as u32;
         stop = b * 64;
     }

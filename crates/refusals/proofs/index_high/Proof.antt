@@ -24,14 +24,14 @@ loop-holds c = (refl, omega arith, omega arith, omega arith, high-end _, λ m a 
 sub-b : tie.Need-sub-b Inv-loop μ-loop
 sub-b c = omega arith
 
-mul-next-high : tie.Need-mul-next-high Inv-loop μ-loop
-mul-next-high c = omega arith
+mul-first-high : tie.Need-mul-first-high Inv-loop μ-loop
+mul-first-high c = omega arith
 
-next-high-requires : tie.Need-next-high-requires Inv-loop μ-loop
-next-high-requires c κs = ((omega arith, omega arith), c .before .loop .inv .4)
+first-high-requires : tie.Need-first-high-requires Inv-loop μ-loop
+first-high-requires c κs = ((omega arith, omega arith), c .before .loop .inv .4)
 
 cast-marks : tie.Need-cast-marks Inv-loop μ-loop
-cast-marks c = omega (arith, c .next-high .ensures .within)
+cast-marks c = omega (arith, c .first-high .ensures .within)
 
 mul-marks : tie.Need-mul-marks Inv-loop μ-loop
 mul-marks c = omega arith
@@ -52,8 +52,8 @@ loop-again c =
       omega arith,
       omega arith,
       omega arith,
-      c .next-high .ensures,
-      index-step _ (l .marks) (l .b - 1) (c .next-high .result) (omega arith) (c .next-high .ensures) (λ m a h. l .inv .5 m (omega arith) h),
+      c .first-high .ensures,
+      index-step _ (l .marks) (l .b - 1) (c .first-high .result) (omega arith) (c .first-high .ensures) (λ m a h. l .inv .5 m (omega arith) h),
     )
 
 same-length : tie.Need-same-length Inv-loop μ-loop
@@ -74,8 +74,8 @@ index-high-spec =
     add-b
     loop-holds
     sub-b
-    mul-next-high
-    next-high-requires
+    mul-first-high
+    first-high-requires
     cast-marks
     mul-marks
     slice-write-marks
