@@ -598,7 +598,7 @@ fn write_rule(
     ensures { λ a. ⌜ ((t : Table Span) (r : Expr Span) (ss : List Bytes) → Lent (now (rules .entry)) (now (rows .entry)) t → At (now (rows .entry)) root r → Spells (resolveTable (now (text .entry)) t) fuel (λ look. readIn look (resolve (now (text .entry)) r)) ss → StrsAnswer a p ss (now (out .entry)) (now (out .exit)) (now (lits .entry)) (now (lits .exit))) ⌝ }
 {
     let mut at = root;
-    let mut left = fuel;
+    let mut fuel_left = fuel;
     let mut q = p;
     while kind_at(rows, at) != 0 {
         if kind_at(rows, at) == 9 {
@@ -611,7 +611,7 @@ fn write_rule(
                 rows,
                 text,
                 leaf,
-                left,
+                fuel_left,
                 out,
                 lits,
                 q,
@@ -625,7 +625,7 @@ fn write_rule(
                 return Wrote::Full;
             };
             at = body;
-            left -= 1;
+            fuel_left -= 1;
         }
     }
     put_str(rows, text, at, out, lits, q)

@@ -109,10 +109,10 @@ write-leaf-returns-3 : (t : ℕ) → write-leaf-lts.Need-returns-3 (calls-write-
 write-leaf-returns-3 t c = λ u r ss l a sp. let s = c .before .before .before .before .before .before .before .before .before .before .before .before .before .before .before .before .before .before .before .before .before in let x = spell-name (s .args .text .now) (here a) a (spell-ident (s .args .text .now) (here a) a (λ e. c .before .before .before .before .before .before .before .before .before .before .before .if1 .left (c .before .before .before .before .before .before .before .before .before .before .before .before .kind-at .ensures ∙ e)) sp) sp in let b = body-at (c .before .before .before .before .before .before .before .before .body .given .1) (c .before .before .before .before .before .before .before .before .before .before .body-of .ensures _ u l) in c .before .before .before .before .write-rule .ensures u (b .tree) ss l (b .at) (name-spells _ _ _ (b .is) x)
 
 abbrev write-rule-Inv-loop : write-rule-lts.InvT-loop
-write-rule-Inv-loop rules rows text marks root fuel out₀ lits₀ at₀ left₀ q₀ out lits at left q = Going rules rows text rows text root fuel q₀ out₀ lits₀ at left q out lits
+write-rule-Inv-loop rules rows text marks root fuel out₀ lits₀ at₀ fuel-left₀ q₀ out lits at fuel-left q = Going rules rows text rows text root fuel q₀ out₀ lits₀ at fuel-left q out lits
 
 abbrev write-rule-μ-loop : write-rule-lts.MeasureT-loop
-write-rule-μ-loop rules rows text marks root fuel out₀ lits₀ at₀ left₀ q₀ out lits at left q = left * 2 ^ 64 + sizeAt rows at
+write-rule-μ-loop rules rows text marks root fuel out₀ lits₀ at₀ fuel-left₀ q₀ out lits at fuel-left q = fuel-left * 2 ^ 64 + sizeAt rows at
 
 -- src/lib.rt:603:5
 write-rule-loop-holds : (t : ℕ) → write-rule-lts.Need-loop-holds (calls-write-rule t) (write-rule-at t) write-rule.Post write-rule-Inv-loop write-rule-μ-loop
@@ -191,8 +191,8 @@ write-rule-returns-2 : (t : ℕ) → write-rule-lts.Need-returns-2 (calls-write-
 write-rule-returns-2 t c = let inv = c .before .before .before .before .before .before .before .loop .inv in absurd (go-none inv (λ e. c .before .before .before .if2 .left (c .before .before .before .before .kind-at2 .ensures ∙ e)) (λ e. c .before .before .before .before .before .if1 .taken (c .before .before .before .before .before .before .kind-at .ensures ∙ e)) (c .before .before .body-of .ensures) (c .enum-told2 .given .1))
 
 -- src/lib.rt:628:13
-write-rule-sub-left : (t : ℕ) → write-rule-lts.Need-sub-left (calls-write-rule t) (write-rule-at t) write-rule.Post write-rule-Inv-loop write-rule-μ-loop
-write-rule-sub-left t c = let inv = c .before .before .before .before .before .before .before .before .loop .inv in name-has (ahead inv) (λ e. c .before .before .before .before .if2 .left (c .before .before .before .before .before .kind-at2 .ensures ∙ e)) (λ e. c .before .before .before .before .before .before .if1 .taken (c .before .before .before .before .before .before .before .kind-at .ensures ∙ e))
+write-rule-sub-fuel-left : (t : ℕ) → write-rule-lts.Need-sub-fuel-left (calls-write-rule t) (write-rule-at t) write-rule.Post write-rule-Inv-loop write-rule-μ-loop
+write-rule-sub-fuel-left t c = let inv = c .before .before .before .before .before .before .before .before .loop .inv in name-has (ahead inv) (λ e. c .before .before .before .before .if2 .left (c .before .before .before .before .before .kind-at2 .ensures ∙ e)) (λ e. c .before .before .before .before .before .before .if1 .taken (c .before .before .before .before .before .before .before .kind-at .ensures ∙ e))
 
 -- src/lib.rt:603:5
 write-rule-loop-less-2 : (t : ℕ) → write-rule-lts.Need-loop-less-2 (calls-write-rule t) (write-rule-at t) write-rule.Post write-rule-Inv-loop write-rule-μ-loop
@@ -271,7 +271,7 @@ pub +write-leaf+write-rule-spec : {M : Type 1} → statement M
     (write-rule-same-length-3 t)
     (write-rule-same-length-4 t)
     (write-rule-returns-2 t)
-    (write-rule-sub-left t)
+    (write-rule-sub-fuel-left t)
     (write-rule-loop-less-2 t)
     (write-rule-loop-again-2 t)
     (write-rule-put-str-requires t)
