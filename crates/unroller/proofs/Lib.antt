@@ -9,3 +9,4 @@ pub mod Spreads
 pub mod Nodes
 pub mod Walks
 pub mod Quiets
+pub mod Climbs

@@ -6,26 +6,23 @@ use Prim.Native.Nat.{ℕ, _+_, _-_, _/_, _≤_}
 use native.Mathlib.Omega.{arith}
 use lib.ListN.{length}
 use Rattle.grammar.specs.Basic.{Bytes}
-use Rattle.grammar.specs.Tree.{Un, unHead, Expr, E, bin, size, anyNode}
+use Rattle.grammar.specs.Tree.{Expr, E, bin, size, anyNode}
 use Rattle.grammar.specs.Rows.{Span}
 use Rattle.grammar.specs.Text.{bytesAt, resolve}
-use Rattle.grammar.specs.Steps.{unroll, unrolled}
-use Rattle.grammar.specs.Refusals.{zeroUn, zeroCount}
-use Rattle.rows.specs.Rows.{At, Stands}
-use Rattle.rows.proofs.Views.{LitView, NumView, OneView, TwoView, SkipView, left-at, at-unique}
+use Rattle.grammar.specs.Steps.{unroll}
+use Rattle.grammar.specs.Refusals.{zeroCount}
+use Rattle.rows.specs.Rows.{At}
+use Rattle.rows.proofs.Views.{LitView, NumView, TwoView, SkipView, left-at, at-unique}
 use Rattle.writing.specs.declared.Place.{Place}
 use Rattle.writing.specs.declared.Wrote.{Wrote}
 use Rattle.writing.specs.declared.Wrote.the-variants.{Done, Full}
 use Rattle.writing.specs.Writes.{Areas, Room, RowAnswer, LitAnswer, Fits, Written, Answer}
-use Rattle.writing.proofs.Trees.{done-written, full-not, written-out, written-lits, written-room, lit-tree, fixed-tree, bin-tree, fits-left, fits-right}
+use Rattle.writing.proofs.Trees.{done-written, full-not, written-out, written-room, lit-tree, fixed-tree, bin-tree, fits-left, fits-right}
 use Rattle.unroller.specs.Items.{Counted}
-use Rattle.unroller.specs.Copies.{Source, Headed}
-use Rattle.unroller.proofs.Lays.{written-source}
-use Rattle.unroller.proofs.Nodes.{unrolled-larger, answer-over, fits-larger}
 
 -- ---- counts
 
-or-false : (a b : Bool) → (a || b) ≡ false → (a ≡ false) × (b ≡ false)
+pub or-false : (a b : Bool) → (a || b) ≡ false → (a ≡ false) × (b ≡ false)
 or-false true b h = absurd (false≢true (sym h))
 or-false false b h = (refl, h)
 
@@ -33,15 +30,13 @@ or-false false b h = (refl, h)
 pub counted-any : {w : List ℕ} {i : ℕ} {r : Expr Span} → Counted w i → At w i r → anyNode zeroCount r ≡ false
 counted-any {r} c a = subst (λ (s : Expr Span). anyNode zeroCount s ≡ false) (at-unique (c .tree) r (c .at) a) (c .counts)
 
-pub counted-stands : {w : List ℕ} {i : ℕ} → Counted w i → Stands w i
-counted-stands c = record { tree = c .tree; at = c .at }
-
 -- ---- leaves
 
 module _ (t : Bytes) {k x y n : ℕ} {r : Expr Span} where
-  pub unrolled-lit : (a : Wrote) (p : Place) (o o′ b b′ : List ℕ) → LitView k x y n r → LitAnswer a p k (bytesAt t (x, y)) o o′ b b′ → Answer a p (unroll (resolve t r)) o o′ b b′
+  -- the offset and the length are read as wide numbers
+  pub unrolled-lit : (a : Wrote) (p : Place) (i j : ℕ) (o o′ b b′ : List ℕ) → LitView k x y n r → i ≡ x → j ≡ y → LitAnswer a p k (bytesAt t (i, j)) o o′ b b′ → Answer a p (unroll (resolve t r)) o o′ b b′
   unfolding unroll
-  unrolled-lit a p o o′ b b′ v h = rw (v .is) (lit-tree a p (v .op) (bytesAt t (x, y)) o o′ b b′ (rw (v .kind) at h))
+  unrolled-lit a p i j o o′ b b′ v d e h = rw (v .is) (lit-tree a p (v .op) (bytesAt t (x, y)) o o′ b b′ (rw (d, e, v .kind) at h))
 
   pub unrolled-num : (a : Wrote) (p : Place) (o o′ b : List ℕ) → NumView k x y n r → p .text ≤ length b → RowAnswer a p (k, x, y) 1 o o′ → Answer a p (unroll (resolve t r)) o o′ b b
   unfolding unroll
@@ -50,47 +45,6 @@ module _ (t : Bytes) {k x y n : ℕ} {r : Expr Span} where
   pub unrolled-skip : {w : List ℕ} {i : ℕ} (a : Wrote) (p : Place) (o o′ b b′ : List ℕ) → SkipView w i k x y n r → Answer a p (resolve t r) o o′ b b′ → Answer a p (unroll (resolve t r)) o o′ b b′
   unfolding unroll
   unrolled-skip a p o o′ b b′ v h = rw (v .is) (rw (v .is) at h)
-
--- ---- one child
-
-module _ (t w : List ℕ) {i k x y n : ℕ} {r : Expr Span} (v : OneView w i k x y n r) (z : anyNode zeroCount r ≡ false) where
-  abbrev inner : E
-  inner = unroll (resolve t (v .child))
-
-  counts : (zeroUn (v .op) ≡ false) × (anyNode zeroCount (v .child) ≡ false)
-  counts = or-false (zeroUn (v .op)) (anyNode zeroCount (v .child)) (rw (v .is) at z)
-
-  one-is : unroll (resolve t r) ≡ unrolled (v .op) inner
-  unfolding unroll
-  one-is = rw (v .is)
-
-  pub one-counted : Counted w (i - 1)
-  one-counted = record { tree = v .child; at = v .at; counts = counts .1 }
-
-  module _ (h : Wrote) (p : Place) (o o₁ b b₁ : List ℕ) (c : (e : Expr Span) → At w (i - 1) e → Answer h p (unroll (resolve t e)) o o₁ b b₁) where
-    done : {q : Place} → h ≡ Done q → Written q p inner o o₁ b b₁
-    done d = done-written p inner o o₁ b b₁ d (c (v .child) (v .at))
-
-    pub one-headed : {q : Place} → h ≡ Done q → Areas o b → Headed p q (k, x, y) o₁ b₁
-    one-headed d a =
-        let u = done d in
-        record {
-          op = v .op;
-          is = v .head;
-          counts = counts .0;
-          tree = inner;
-          source = written-source u;
-          areas = record { words = omega (arith, a .words, written-out u); bytes = omega (arith, a .bytes, written-lits u) };
-        }
-
-    pub one-full : h ≡ Full → Fits p (unroll (resolve t r)) o b → ⊥
-    one-full d f = full-not p inner o o₁ b b₁ d (c (v .child) (v .at)) (fits-larger (unrolled-larger (v .op) inner (counts .0)) (rw one-is at f))
-
-    pub one-node : (a : Wrote) {q : Place} (o₂ b₂ : List ℕ) → h ≡ Done q → ((u : Un) (e : E) → (k, x, y) ≡ unHead u → Source p q e o₁ b₁ → Answer a p (unrolled u e) o₁ o₂ b₁ b₂)
-        → Answer a p (unroll (resolve t r)) o o₂ b b₂
-    one-node a o₂ b₂ d g =
-        let u = done d in
-        rw one-is (answer-over u (unrolled (v .op) inner) (unrolled-larger (v .op) inner (counts .0)) a o₂ b₂ (g (v .op) inner (v .head) (written-source u)))
 
 -- ---- two children
 

@@ -10,9 +10,12 @@ ghost use Rattle.grammar.specs.Rows.{Span};
 ghost use Rattle.grammar.specs.Steps.{nest, unrolled, unroll};
 ghost use Rattle.grammar.specs.Text.{bytesAt, resolve};
 ghost use Rattle.writing.specs.Writes.{stored, Room, RowPut, Written, Answer};
-ghost use Rattle.rows.specs.Rows.{Tells, Inside, At, Stands};
+ghost use Rattle.rows.specs.Rows.{Tells, Inside, At, Stands, shapeOf, kindAt};
+ghost use Rattle.rows.specs.declared.Shape.the-variants.{One};
+ghost use Rattle.chains.specs.Runs.{ups};
 ghost use Rattle.unroller.specs.declared.Item.the-variants.{Once};
 ghost use Rattle.unroller.specs.Items.{Counted, itemOf, itemsOf, countOf, items, itemsFor, IsRepeat, Holds};
+ghost use Rattle.unroller.specs.Climbs.{RunOver, Standing, ClimbedAnswer};
 ghost use Rattle.unroller.specs.Copies.{movedRow, moved, Movable, Source, Copyable, Repeatable, Finishable, Layable, Spreadable, Headed, Laid};
 use rows::Lookup;
 use rows::Shape;
@@ -308,44 +311,84 @@ pub fn unrolls(rows: &[u32], root: usize) -> bool
     false
 }
 
-// Writes the subtree of row `root`, unrolled node by node, at p.
-fn walk(rows: &[u32], text: &[u8], root: usize, out: &mut [u32], lits: &mut [u8], p: Place) -> Wrote
+// Whether a row of this kind has one child.
+fn one_below(kind: u32) -> bool
+    ensures { λ r. ⌜ Tells r (shapeOf kind ≡ One) ⌝ }
+{
+    if let Shape::One = rows::shape_of(kind) {
+        return true;
+    }
+    false
+}
+
+// The row below the run of rows with one child each that ends at `root`: what chains::below tells, by the kinds alone, which is cheaper.
+fn below(rows: &[u32], root: usize) -> usize
+    requires { ⌜ Stands (now rows) root ⌝ }
+    ensures { λ b. ⌜ RunOver (now (rows .entry)) b root ⌝ }
+{
+    let mut base = root;
+    while one_below(rows[base * 4]) {
+        base -= 1;
+    }
+    base
+}
+
+// Writes the rows after `base` up to `root`, which have one child each, over the tree that stands from p to q, unrolled.
+fn climb(
+    rows: &[u32],
+    base: usize,
+    root: usize,
+    out: &mut [u32],
+    lits: &mut [u8],
+    p: Place,
+    q: Place,
+) -> Wrote
+    requires { ⌜ Counted (now rows) root ⌝ }
+    requires { ⌜ RunOver (now rows) base root ⌝ }
+    requires { ⌜ Standing q p (now out) (now lits) ⌝ }
+    ensures { λ a. ⌜ ((r : Expr Span) → At (now (rows .entry)) root r → ClimbedAnswer a q p (ups r) (now (out .entry)) (now (out .exit)) (now (lits .entry)) (now (lits .exit))) ⌝ }
+{
+    let mut s = q;
+    let mut i = base;
+    while i < root {
+        i += 1;
+        let at = i * 4;
+        let Wrote::Done(z) = node(out, lits, p, s, rows[at], rows[at + 1], rows[at + 2]) else {
+            return Wrote::Full;
+        };
+        s = z;
+    }
+    Wrote::Done(s)
+}
+
+// Writes the subtree of row `root`, which has not one child, unrolled node by node, at p.
+fn bottom(
+    rows: &[u32],
+    text: &[u8],
+    root: usize,
+    out: &mut [u32],
+    lits: &mut [u8],
+    p: Place,
+) -> Wrote
     requires { ⌜ Inside (now rows) (length (now text)) ⌝ }
     requires { ⌜ Counted (now rows) root ⌝ }
     requires { ⌜ Room p (now out) (now lits) ⌝ }
+    requires { ⌜ (shapeOf (kindAt (now rows) root) ≡ One → ⊥) ⌝ }
     ensures { λ a. ⌜ ((r : Expr Span) → At (now (rows .entry)) root r → Answer a p (unroll (resolve (now (text .entry)) r)) (now (out .entry)) (now (out .exit)) (now (lits .entry)) (now (lits .exit))) ⌝ }
 {
-    let Lookup::Row {
-        kind,
-        x,
-        y,
-        size: _,
-    } = rows::row_at(rows, root)
-    else {
-        return Wrote::Full;
-    };
+    let at = root * 4;
+    let kind = rows[at];
+    let x = rows[at + 1];
+    let y = rows[at + 2];
     match rows::shape_of(kind) {
-        Shape::Lit => writing::put_lit(text, x as usize, y as usize, kind, out, lits, p),
+        Shape::Lit => writing::put_lit(text, rows::wide(x), rows::wide(y), kind, out, lits, p),
         Shape::Num => writing::put_row(out, p, kind, x, y, 1),
         Shape::Skips => writing::copy(rows, text, root, out, lits, p),
-        Shape::One => {
-            let Wrote::Done(q) = walk(rows, text, root - 1, out, lits, p) else {
-                return Wrote::Full;
-            };
-            node(out, lits, p, q, kind, x, y)
-        }
+        Shape::One => Wrote::Full,
         Shape::Two => {
             let right = root - 1;
-            let Lookup::Row {
-                kind: _,
-                x: _,
-                y: _,
-                size: n,
-            } = rows::row_at(rows, right)
-            else {
-                return Wrote::Full;
-            };
-            let Wrote::Done(q) = walk(rows, text, right - n as usize, out, lits, p) else {
+            let left = right - rows::wide(rows[right * 4 + 3]);
+            let Wrote::Done(q) = walk(rows, text, left, out, lits, p) else {
                 return Wrote::Full;
             };
             let Wrote::Done(s) = walk(rows, text, right, out, lits, q) else {
@@ -355,6 +398,21 @@ fn walk(rows: &[u32], text: &[u8], root: usize, out: &mut [u32], lits: &mut [u8]
             writing::put_row(out, s, kind, x, y, size as u32)
         }
     }
+}
+
+// Writes the subtree of row `root`, unrolled node by node, at p.
+fn walk(rows: &[u32], text: &[u8], root: usize, out: &mut [u32], lits: &mut [u8], p: Place) -> Wrote
+    requires { ⌜ Inside (now rows) (length (now text)) ⌝ }
+    requires { ⌜ Counted (now rows) root ⌝ }
+    requires { ⌜ Room p (now out) (now lits) ⌝ }
+    ensures { λ a. ⌜ ((r : Expr Span) → At (now (rows .entry)) root r → Answer a p (unroll (resolve (now (text .entry)) r)) (now (out .entry)) (now (out .exit)) (now (lits .entry)) (now (lits .exit))) ⌝ }
+{
+    // no call for each row of a run: a host's stack is short
+    let base = below(rows, root);
+    let Wrote::Done(q) = bottom(rows, text, base, out, lits, p) else {
+        return Wrote::Full;
+    };
+    climb(rows, base, root, out, lits, p, q)
 }
 
 // Writes the subtree of row `root`, unrolled, at p: most have nothing to unroll, and a copy is cheaper than a walk.
