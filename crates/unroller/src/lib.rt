@@ -321,7 +321,7 @@ fn one_below(kind: u32) -> bool
     false
 }
 
-// The row below the run of rows with one child each that ends at `root`, as chains::below tells it: every row is read here, so that no row is looked up.
+// The row below the run of rows with one child each that ends at `root`: what chains::below tells, by the kinds alone, which is cheaper.
 fn below(rows: &[u32], root: usize) -> usize
     requires { ⌜ Stands (now rows) root ⌝ }
     ensures { λ b. ⌜ RunOver (now (rows .entry)) b root ⌝ }
