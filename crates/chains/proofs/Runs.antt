@@ -6,26 +6,25 @@ use Prim.Native.Nat.{ℕ, zero, suc, _+_, _-_, _*_, _/_, _≤_, _<_}
 use native.Mathlib.Omega.{arith}
 use lib.ListN.{length, drop}
 use Rattle.grammar.specs.Basic.{Bytes}
-use Rattle.grammar.specs.Tree.{Head, Un, Expr, E, lit, fixed, skip, un, bin, unHead, size}
+use Rattle.grammar.specs.Tree.{Un, Expr, E, lit, fixed, skip, un, bin, size}
 use Rattle.grammar.specs.Rows.{Span, row}
 use Rattle.grammar.specs.Text.{resolve, textOf}
 use Rattle.rows.specs.declared.Shape.{Shape}
-use Rattle.rows.specs.declared.Shape.the-variants.{Lit, Num, One, Two, Skips}
+use Rattle.rows.specs.declared.Shape.the-variants.{One, Two}
 use Rattle.rows.specs.Rows.{At, sizeAt, shapeOf}
 use types.Run.{OneOf}
 use denote.Enum.Declared.{tagOf}
 use Rattle.rows.proofs.Shape as shape
-use Rattle.rows.proofs.Laws.{Found, root, at-un, size-pos}
+use Rattle.rows.proofs.Laws.{Found, root, at-un}
 use Rattle.rows.proofs.Cells.{size-resolve}
 use Rattle.rows.proofs.Views.{shapeIn, found-shape, found-head, as-one, at-unique}
 use Rattle.writing.specs.declared.Place.{Place}
-use Rattle.writing.specs.declared.Wrote.{Wrote}
-use Rattle.writing.specs.declared.Wrote.the-variants.{Done, Full}
+use Rattle.writing.specs.declared.Wrote.the-variants.{Done}
 use Rattle.writing.specs.Writes.{stored, Fits}
-use Rattle.writing.specs.Keeps.{Kept, KeptAnswer, Ready}
+use Rattle.writing.specs.Keeps.{Kept}
 use Rattle.writing.proofs.Puts.{row-set}
 use Rattle.writing.proofs.Runs.{length-stored}
-use Rattle.writing.proofs.Keeps.{kept-un, ready-fits}
+use Rattle.writing.proofs.Keeps.{kept-un}
 use Rattle.chains.specs.Runs.{wrap, ups, low, Raisable, RaisedAnswer}
 
 -- what the else of `if let Shape::One`, and of `if let Shape::Two`, knows: the shape is one of the others
@@ -118,14 +117,6 @@ not-one (bin b l r) h = refl
 module _ {w : List ℕ} {root base : ℕ} (d : Downs w root base) where
   pub down-end : ((r : Expr Span) → At w base r → shapeIn r ≡ One → ⊥) → (r : Expr Span) → At w root r → base + length (ups r) ≡ root
   down-end h r a = let v = d r a in omega (arith, v .count, ap length (not-one (v .tree) (h (v .tree) (v .at))))
-
-  -- a tree at row 0 has one row
-  pub down-first : base ≡ 0 → (r : Expr Span) → At w base r → shapeIn r ≡ One → ⊥
-  down-first e (lit k s) a h = let z : _≡_ {A = ℕ} 0 1 = cc in omega arith
-  down-first e (fixed f) a h = let z : _≡_ {A = ℕ} 0 1 = cc in omega arith
-  down-first e (skip ss) a h = let z : _≡_ {A = ℕ} 0 1 = cc in omega arith
-  down-first e (un u r) a h = omega (arith, a .place, size-pos r)
-  down-first e (bin b l r) a h = let z : _≡_ {A = ℕ} 0 1 = cc in omega arith
 
   module _ {k x y n : ℕ} (g : Found w base k x y n) where
     pub down-more : shapeOf k ≡ One → Downs w root (base - 1)

@@ -5,7 +5,8 @@ ghost use Prim.Native.Nat.{ℕ, _+_};
 ghost use lib.ListN.{length};
 ghost use Rattle.grammar.specs.Tree.{Bin, binKind, Expr};
 ghost use Rattle.grammar.specs.Rows.{Span};
-ghost use Rattle.rows.specs.Rows.{At, Stands};
+ghost use Rattle.rows.specs.Rows.{At, Stands, Tells, shapeOf};
+ghost use Rattle.rows.specs.declared.Shape.the-variants.{One};
 ghost use Rattle.chains.specs.Chains.{Forest, Closable, ClosedAnswer, IsBin};
 ghost use Rattle.chains.specs.Runs.{ups, Raisable, RaisedAnswer};
 use rows::Lookup;
@@ -54,27 +55,24 @@ pub fn close(out: &mut [u32], s: Place, kind: u32, n: usize) -> Wrote
     })
 }
 
+// Whether a row of this kind has one child.
+fn one_below(kind: u32) -> bool
+    ensures { λ r. ⌜ Tells r (shapeOf kind ≡ One) ⌝ }
+{
+    if let Shape::One = rows::shape_of(kind) {
+        return true;
+    }
+    false
+}
+
 // The row below the run of rows with one child each that ends at `root`: `root` itself where its row has none or two.
 pub fn below(rows: &[u32], root: usize) -> usize
     requires { ⌜ Stands (now rows) root ⌝ }
     ensures { λ b. ⌜ ((r : Expr Span) → At (now (rows .entry)) root r → b + length (ups r) ≡ root) ⌝ }
 {
     let mut base = root;
-    while base > 0 {
-        let Lookup::Row {
-            kind,
-            x: _,
-            y: _,
-            size: _,
-        } = rows::row_at(rows, base)
-        else {
-            return base;
-        };
-        if let Shape::One = rows::shape_of(kind) {
-            base -= 1;
-        } else {
-            return base;
-        }
+    while one_below(rows[base * 4]) {
+        base -= 1;
     }
     base
 }

@@ -199,6 +199,41 @@ meetsLoop given (some x) = isAgain (leafList given x)
 abbrev pub meetsGiven : Table Bytes → E → Bool
 meetsGiven given e = meetsLoop given (asRep e >>= inLoop)
 
+-- rotation, and a test that no node of two children passes
+module _ (T : E → Bool) (two : (b : Bin) (l r : E) → T (bin b l r) ≡ false) where
+  or-assoc : (a b c : Bool) → (a || (b || c)) ≡ ((a || b) || c)
+  or-assoc true b c = refl
+  or-assoc false b c = refl
+
+  abbrev Passes : E → Bool
+  Passes e = anyNode T (rotate e)
+
+  abbrev ChainPasses : Bin → E → E → Bool
+  ChainPasses b l r = anyNode T (children rotate (rotated b l r))
+
+  chain-is : (b : Bin) (l r : E) → Passes (bin b l r) ≡ ChainPasses b l r
+  chain-is b l r = ap (anyNode T) (rotate-step (bin b l r))
+
+  pair-any : (b : Bin) (l r : E) → anyNode T (bin b (rotate l) (rotate r)) ≡ (Passes l || Passes r)
+  pair-any b l r = ap (λ (x : Bool). x || (Passes l || Passes r)) (two b (rotate l) (rotate r))
+
+  nested : (b : Bin) (x y r : E) → ChainPasses b x (bin b y r) ≡ (Passes x || Passes (bin b y r)) → ChainPasses b y r ≡ (Passes y || Passes r) → ChainPasses b x y ≡ (Passes x || Passes y) → ChainPasses b x (bin b y r) ≡ (Passes (bin b x y) || Passes r)
+  nested b x y r h k m =
+      h
+      ∙ ap (λ (c : Bool). Passes x || c) (chain-is b y r ∙ k)
+      ∙ or-assoc (Passes x) (Passes y) (Passes r)
+      ∙ ap (λ (c : Bool). c || Passes r) (sym (chain-is b x y ∙ m))
+
+  pub rotated-two : (b : Bin) (l r : E) → ChainPasses b l r ≡ (Passes l || Passes r)
+  rotated-two b (lit k s) r = pair-any b (lit k s) r
+  rotated-two b (fixed f) r = pair-any b (fixed f) r
+  rotated-two b (skip ss) r = pair-any b (skip ss) r
+  rotated-two b (un u e) r = pair-any b (un u e) r
+  rotated-two Seq (bin Choice x y) r = pair-any Seq (bin Choice x y) r
+  rotated-two Choice (bin Seq x y) r = pair-any Choice (bin Seq x y) r
+  rotated-two Seq (bin Seq x y) r = nested Seq x y r (rotated-two Seq x (bin Seq y r)) (rotated-two Seq y r) (rotated-two Seq x y)
+  rotated-two Choice (bin Choice x y) r = nested Choice x y r (rotated-two Choice x (bin Choice y r)) (rotated-two Choice y r) (rotated-two Choice x y)
+
 module _ (t : Table Bytes) where
   loop-same : (o : Option E) → meetsIn t (mapOption rotate o) ≡ meetsLoop t o
   unfolding skipList
@@ -222,46 +257,12 @@ module _ (t : Table Bytes) where
   un-same (RepMax n) e = refl
   un-same (RepMinMax m n) e = refl
 
-  or-assoc : (a b c : Bool) → (a || (b || c)) ≡ ((a || b) || c)
-  or-assoc true b c = refl
-  or-assoc false b c = refl
-
-  -- a loop below that meets a rule again, in the rotated expression
-  abbrev Meets : E → Bool
-  Meets e = anyNode (meetsAt t) (rotate e)
-
-  abbrev MeetsChain : Bin → E → E → Bool
-  MeetsChain b l r = anyNode (meetsAt t) (children rotate (rotated b l r))
-
-  chain-is : (b : Bin) (l r : E) → Meets (bin b l r) ≡ MeetsChain b l r
-  chain-is b l r = ap (anyNode (meetsAt t)) (rotate-step (bin b l r))
-
-  pair-any : (b : Bin) (l r : E) → anyNode (meetsAt t) (bin b (rotate l) (rotate r)) ≡ (Meets l || Meets r)
-  pair-any b l r = ap (λ (x : Bool). x || (Meets l || Meets r)) (meetsAt-is (bin b (rotate l) (rotate r)))
-
-  nested : (b : Bin) (x y r : E) → MeetsChain b x (bin b y r) ≡ (Meets x || Meets (bin b y r)) → MeetsChain b y r ≡ (Meets y || Meets r) → MeetsChain b x y ≡ (Meets x || Meets y) → MeetsChain b x (bin b y r) ≡ (Meets (bin b x y) || Meets r)
-  nested b x y r h k m =
-      h
-      ∙ ap (λ (c : Bool). Meets x || c) (chain-is b y r ∙ k)
-      ∙ or-assoc (Meets x) (Meets y) (Meets r)
-      ∙ ap (λ (c : Bool). c || Meets r) (sym (chain-is b x y ∙ m))
-
-  chain-any : (b : Bin) (l r : E) → MeetsChain b l r ≡ (Meets l || Meets r)
-  chain-any b (lit k s) r = pair-any b (lit k s) r
-  chain-any b (fixed f) r = pair-any b (fixed f) r
-  chain-any b (skip ss) r = pair-any b (skip ss) r
-  chain-any b (un u e) r = pair-any b (un u e) r
-  chain-any Seq (bin Choice x y) r = pair-any Seq (bin Choice x y) r
-  chain-any Choice (bin Seq x y) r = pair-any Choice (bin Seq x y) r
-  chain-any Seq (bin Seq x y) r = nested Seq x y r (chain-any Seq x (bin Seq y r)) (chain-any Seq y r) (chain-any Seq x y)
-  chain-any Choice (bin Choice x y) r = nested Choice x y r (chain-any Choice x (bin Choice y r)) (chain-any Choice y r) (chain-any Choice x y)
-
   any-same : (e : E) → anyNode (meetsAt t) (rotate e) ≡ anyNode (meetsGiven t) e
   any-same (lit k s) = ap (anyNode (meetsAt t)) (rotate-step (lit k s)) ∙ meetsAt-is (lit k s)
   any-same (fixed f) = ap (anyNode (meetsAt t)) (rotate-step (fixed f)) ∙ meetsAt-is (fixed f)
   any-same (skip ss) = ap (anyNode (meetsAt t)) (rotate-step (skip ss)) ∙ meetsAt-is (skip ss)
   any-same (un u e) = ap (anyNode (meetsAt t)) (rotate-step (un u e)) ∙ ap₂ _||_ (meetsAt-is (un u (rotate e)) ∙ un-same u e) (any-same e)
-  any-same (bin b l r) = ap (anyNode (meetsAt t)) (rotate-step (bin b l r)) ∙ chain-any b l r ∙ ap₂ _||_ (any-same l) (any-same r)
+  any-same (bin b l r) = ap (anyNode (meetsAt t)) (rotate-step (bin b l r)) ∙ rotated-two (meetsAt t) (λ c x y. meetsAt-is (bin c x y)) b l r ∙ ap₂ _||_ (any-same l) (any-same r)
 
   rules-same : (rs : Table Bytes) → any (λ r. isAtomic (r .type) && anyNode (meetsAt t) (rotate (r .body))) rs ≡ any (λ r. isAtomic (r .type) && anyNode (meetsGiven t) (r .body)) rs
   rules-same [] = refl

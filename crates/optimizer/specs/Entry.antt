@@ -7,7 +7,7 @@ use lib.ListN.{length}
 use Rattle.grammar.specs.Basic.{Bytes}
 use Rattle.grammar.specs.Rows.{Span}
 use Rattle.grammar.specs.Table.{Table, Words, resolveTable}
-use Rattle.grammar.specs.Refusals.{zeroCounts, meets}
+use Rattle.grammar.specs.Refusals.{zeroCounts}
 use Rattle.grammar.specs.Optimize as grammar
 use Rattle.writing.specs.declared.Place.{Place}
 use Rattle.skipper.specs.Lends.{Given}

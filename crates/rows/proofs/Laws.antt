@@ -170,6 +170,10 @@ pub record Found (w : List ℕ) (i k a b n : ℕ) : Type 0 where
   pub y : yAt w i ≡ b
   pub rows : sizeAt w i ≡ n
 
+-- a row that is there
+pub found-row : (w : List ℕ) (i : ℕ) → i < length w / 4 → Found w i (kindAt w i) (xAt w i) (yAt w i) (sizeAt w i)
+found-row w i h = record { within = h; kind = refl; x = refl; y = refl; rows = refl }
+
 -- a row that was read
 pub row-found : {w : List ℕ} {i k x y n : ℕ} → rowAt w i ≡ Row k x y n → Found w i k x y n
 unfolding rowAt

@@ -1,17 +1,16 @@
 -- Rotation neither makes nor unmakes a loop, and leaves what its list is read to: so a table's loops are settled before rotation. Assumes nothing.
 use mathlib.Core.Path.{_≡_, refl, sym, ap, ap₂, _∙_, fun-ext}
-use mathlib.Core.Bool.{Bool, true, false, _&&_, _||_}
-use mathlib.Core.List.{List, [], _∷_}
+use mathlib.Core.Bool.{Bool, _&&_, _||_}
+use mathlib.Core.List.{[], _∷_}
 use mathlib.Core.Option.{Option, none, some}
-use Prim.Native.Nat.{ℕ}
 use Rattle.grammar.specs.Basic.{Bytes, _>>=_, any}
-use Rattle.grammar.specs.Tree.{Bin, Choice, E, NegPred, Opt, PosPred, Push, Rep, RepExact, RepMax, RepMin, RepMinMax, RepOnce, RestoreOnErr, Seq, Un, anyNode, asRep, bin, fixed, lit, skip, un}
+use Rattle.grammar.specs.Tree.{E, NegPred, Opt, PosPred, Push, Rep, RepExact, RepMax, RepMin, RepMinMax, RepOnce, RestoreOnErr, Un, anyNode, asRep, bin, fixed, lit, skip, un}
 use Rattle.grammar.specs.Table.{Table}
 use Rattle.grammar.specs.Lists.{Reading, isAgain, loopOver, readIn, skipList}
-use Rattle.grammar.specs.Steps.{children, isAtomic, rotate, rotated}
+use Rattle.grammar.specs.Steps.{isAtomic, rotate}
 use Rattle.grammar.specs.Refusals.{meets, meetsAt, meetsIn}
 use Rattle.grammar.proofs.TopDown.{rotate-step}
-use Rattle.grammar.proofs.Leaves.{inLoop, loopOver-is, mapOption, rotated-loop}
+use Rattle.grammar.proofs.Leaves.{inLoop, loopOver-is, mapOption, rotated-loop, rotated-two}
 use Rattle.skipper.specs.Memory.{nameList}
 use Rattle.skipper.specs.Loops.{openIn, openAt}
 use Rattle.skipper.specs.Lists.{unreadIn, unreadAt}
@@ -42,40 +41,6 @@ module _ (look : Bytes → Reading) where
   un-same (RepMax n) e = refl
   un-same (RepMinMax m n) e = refl
 
-  or-assoc : (a b c : Bool) → (a || (b || c)) ≡ ((a || b) || c)
-  or-assoc true b c = refl
-  or-assoc false b c = refl
-
-  -- some loop of the rotated expression is not read to its end
-  abbrev Unread : E → Bool
-  Unread e = anyNode (unreadAt look) (rotate e)
-
-  abbrev UnreadChain : Bin → E → E → Bool
-  UnreadChain b l r = anyNode (unreadAt look) (children rotate (rotated b l r))
-
-  chain-is : (b : Bin) (l r : E) → Unread (bin b l r) ≡ UnreadChain b l r
-  chain-is b l r = ap (anyNode (unreadAt look)) (rotate-step (bin b l r))
-
-  pair-any : (b : Bin) (l r : E) → anyNode (unreadAt look) (bin b (rotate l) (rotate r)) ≡ (Unread l || Unread r)
-  pair-any b l r = ap (λ (x : Bool). x || (Unread l || Unread r)) (unread-is (bin b (rotate l) (rotate r)))
-
-  nested : (b : Bin) (x y r : E) → UnreadChain b x (bin b y r) ≡ (Unread x || Unread (bin b y r)) → UnreadChain b y r ≡ (Unread y || Unread r) → UnreadChain b x y ≡ (Unread x || Unread y) → UnreadChain b x (bin b y r) ≡ (Unread (bin b x y) || Unread r)
-  nested b x y r h k m =
-      h
-      ∙ ap (λ (c : Bool). Unread x || c) (chain-is b y r ∙ k)
-      ∙ or-assoc (Unread x) (Unread y) (Unread r)
-      ∙ ap (λ (c : Bool). c || Unread r) (sym (chain-is b x y ∙ m))
-
-  chain-any : (b : Bin) (l r : E) → UnreadChain b l r ≡ (Unread l || Unread r)
-  chain-any b (lit k s) r = pair-any b (lit k s) r
-  chain-any b (fixed f) r = pair-any b (fixed f) r
-  chain-any b (skip ss) r = pair-any b (skip ss) r
-  chain-any b (un u e) r = pair-any b (un u e) r
-  chain-any Seq (bin Choice x y) r = pair-any Seq (bin Choice x y) r
-  chain-any Choice (bin Seq x y) r = pair-any Choice (bin Seq x y) r
-  chain-any Seq (bin Seq x y) r = nested Seq x y r (chain-any Seq x (bin Seq y r)) (chain-any Seq y r) (chain-any Seq x y)
-  chain-any Choice (bin Choice x y) r = nested Choice x y r (chain-any Choice x (bin Choice y r)) (chain-any Choice y r) (chain-any Choice x y)
-
   -- THE LOOPS OF A ROTATED EXPRESSION
   pub rotated-any : (e : E) → anyNode (unreadAt look) (rotate e) ≡ anyNode (openAt look) e
   rotated-any (lit k s) = ap (anyNode (unreadAt look)) (rotate-step (lit k s)) ∙ unread-is (lit k s) ∙ sym (open-is (lit k s))
@@ -84,7 +49,7 @@ module _ (look : Bytes → Reading) where
   rotated-any (un u e) = ap (anyNode (unreadAt look)) (rotate-step (un u e)) ∙ ap₂ _||_ (unread-is (un u (rotate e)) ∙ un-same u e ∙ sym (open-is (un u e))) (rotated-any e)
   rotated-any (bin b l r) =
       ap (anyNode (unreadAt look)) (rotate-step (bin b l r))
-      ∙ chain-any b l r
+      ∙ rotated-two (unreadAt look) (λ c x y. unread-is (bin c x y)) b l r
       ∙ ap₂ _||_ (rotated-any l) (rotated-any r)
       ∙ ap (λ (c : Bool). c || (anyNode (openAt look) l || anyNode (openAt look) r)) (sym (open-is (bin b l r)))
 

@@ -11,9 +11,9 @@ use Rattle.grammar.specs.Rows.{Span}
 use Rattle.grammar.specs.Text.{resolve}
 use Rattle.grammar.specs.Steps.{unroll, unrolled}
 use Rattle.grammar.specs.Refusals.{zeroUn, zeroCount}
-use Rattle.rows.specs.Rows.{Inside, At, kindAt, xAt, yAt, sizeAt, shapeOf}
+use Rattle.rows.specs.Rows.{Inside, At, kindAt, xAt, yAt, shapeOf}
 use Rattle.rows.specs.declared.Shape.the-variants.{Lit, One}
-use Rattle.rows.proofs.Laws.{Found, root, root-found, at-un}
+use Rattle.rows.proofs.Laws.{root, root-found, at-un, found-row}
 use Rattle.rows.proofs.Cells.{in-text}
 use Rattle.rows.proofs.Views.{found-head, found-shape}
 use Rattle.writing.specs.declared.Place.{Place}
@@ -30,13 +30,9 @@ use Rattle.unroller.proofs.Lays.{written-source}
 use Rattle.unroller.proofs.Nodes.{unrolled-larger, answer-over, fits-larger}
 use Rattle.unroller.proofs.Walks.{or-false, counted-any}
 
--- the words of a row
-pub row-words : (w : List ℕ) (i : ℕ) → i < length w / 4 → Found w i (kindAt w i) (xAt w i) (yAt w i) (sizeAt w i)
-row-words w i h = record { within = h; kind = refl; x = refl; y = refl; rows = refl }
-
 -- the bytes of a literal lie in the text
 pub lit-in : (m : ℕ) (w : List ℕ) (i : ℕ) {x y : ℕ} → Inside w m → i < length w / 4 → shapeOf (kindAt w i) ≡ Lit → x ≡ xAt w i → y ≡ yAt w i → x + y ≤ m
-lit-in m w i f h s d e = omega (arith, in-text m f (row-words w i h) s, d, e)
+lit-in m w i f h s d e = omega (arith, in-text m f (found-row w i h) s, d, e)
 
 -- ---- an unrolled tree is its run, unrolled over the unrolled tree below
 
@@ -115,7 +111,7 @@ module _ {w o₀ t₀ : List ℕ} {base top : ℕ} {p q : Place} {o t : List ℕ
           let g = or-false (zeroUn v) (anyNode zeroCount r) f in
           record {
             op = v;
-            is = found-head (row-words w (i + 1) (root a .inside)) a;
+            is = found-head (found-row w (i + 1) (root a .inside)) a;
             counts = g .0;
             tree = climbed (ups r) (d .tree);
             source = written-source (u .kept r b (omega arith) (g .1) (d .tree) (d .words) (d .bytes) (d .written));
@@ -133,7 +129,7 @@ module _ {w o₀ t₀ : List ℕ} {base top : ℕ} {p q : Place} {o t : List ℕ
         let d : At w i r = subst (λ (n : ℕ). At w n r) (omega arith) (at-un b) in
         let g = or-false (zeroUn v) (anyNode zeroCount r) x in
         let y = u .kept r d (omega arith) (g .1) e o₂ t₂ m in
-        answer-over y (unrolled v (climbed (ups r) e)) (unrolled-larger v _ (g .0)) a o₁ t₁ (f v _ (found-head (row-words w (i + 1) (root b .inside)) b) (written-source y))
+        answer-over y (unrolled v (climbed (ups r) e)) (unrolled-larger v _ (g .0)) a o₁ t₁ (f v _ (found-head (found-row w (i + 1) (root b .inside)) b) (written-source y))
 
     pub up-more : {z : Place} → a ≡ Done z → length o₁ ≡ length o → length t₁ ≡ length t → Up w o₀ t₀ base top p q o₁ t₁ z (i + 1)
     up-more e m k = record {

@@ -311,28 +311,6 @@ pub fn unrolls(rows: &[u32], root: usize) -> bool
     false
 }
 
-// Whether a row of this kind has one child.
-fn one_below(kind: u32) -> bool
-    ensures { λ r. ⌜ Tells r (shapeOf kind ≡ One) ⌝ }
-{
-    if let Shape::One = rows::shape_of(kind) {
-        return true;
-    }
-    false
-}
-
-// The row below the run of rows with one child each that ends at `root`: what chains::below tells, by the kinds alone, which is cheaper.
-fn below(rows: &[u32], root: usize) -> usize
-    requires { ⌜ Stands (now rows) root ⌝ }
-    ensures { λ b. ⌜ RunOver (now (rows .entry)) b root ⌝ }
-{
-    let mut base = root;
-    while one_below(rows[base * 4]) {
-        base -= 1;
-    }
-    base
-}
-
 // Writes the rows after `base` up to `root`, which have one child each, over the tree that stands from p to q, unrolled.
 fn climb(
     rows: &[u32],
@@ -408,7 +386,7 @@ fn walk(rows: &[u32], text: &[u8], root: usize, out: &mut [u32], lits: &mut [u8]
     ensures { λ a. ⌜ ((r : Expr Span) → At (now (rows .entry)) root r → Answer a p (unroll (resolve (now (text .entry)) r)) (now (out .entry)) (now (out .exit)) (now (lits .entry)) (now (lits .exit))) ⌝ }
 {
     // no call for each row of a run: a host's stack is short
-    let base = below(rows, root);
+    let base = chains::below(rows, root);
     let Wrote::Done(q) = bottom(rows, text, base, out, lits, p) else {
         return Wrote::Full;
     };

@@ -1,17 +1,17 @@
 -- A subtree is written from the row below its run up: that row over its children, and then the run. The measure: the size of the subtree, two for each row. Assumes nothing.
 use mathlib.Core.Path.{_≡_, sym, _∙_}
-use Prim.Native.Nat.{ℕ, _+_, _*_, _<_}
+use Prim.Native.Nat.{ℕ, _+_, _*_}
 use native.Mathlib.Omega.{arith}
 use borrow.Author.Needs.{needs}
 use Rattle.grammar.specs.Tree.{Expr, size}
 use Rattle.grammar.specs.Rows.{Span}
 use Rattle.rows.specs.declared.Shape.the-variants.{Lit}
 use Rattle.rows.specs.Rows.{At, kindAt, xAt, yAt, sizeAt, shapeOf}
-use Rattle.rows.proofs.Laws.{root}
+use Rattle.rows.proofs.Laws.{root, found-row}
 use Rattle.rows.proofs.Views.{TwoView, as-lit, as-num, as-two, as-skip, left-at}
 use Rattle.chains.proofs.Runs.{low-most}
 use Rattle.unroller.proofs.Walks.{unrolled-lit, unrolled-num, unrolled-skip, left-counted, right-counted, two-full₁, two-full₂, two-room, two-size, two-node}
-use Rattle.unroller.proofs.Climbs.{row-words, lit-in, low-kind, low-counted, low-full, low-standing, run-answer}
+use Rattle.unroller.proofs.Climbs.{lit-in, low-kind, low-counted, low-full, low-standing, run-answer}
 use borrow.Fn.Kinds.{In}
 use borrow.Fn.PlainCycle.{Measures, is, falls, and}
 use Rattle.unroller.proofs.bottom.Reads as bottom
@@ -22,7 +22,7 @@ use Rattle.unroller.proofs.walk.Kinds as walk-kinds
 use Rattle.unroller.proofs.+bottom+walk.Lts-walk as walk-lts
 use Rattle.rows.proofs.shape_of.Reads as shape-of-reads
 use Rattle.rows.proofs.wide.Reads as wide-reads
-use Rattle.unroller.proofs.below.Reads as below-reads
+use Rattle.chains.proofs.below.Reads as below-reads
 use Rattle.unroller.proofs.climb.Reads as climb-reads
 use Rattle.writing.proofs.copy.Reads as copy-reads
 use Rattle.writing.proofs.put_lit.Reads as put-lit-reads
@@ -61,7 +61,7 @@ is-lit t c = sym (c .before .before .shape-of .ensures) ∙ c .enum-told .given 
 
 two-of : (t : ℕ) (c : bottom-lts.After-enum-told5 (calls-bottom t) (bottom-at t) bottom.Post) {r : Expr Span} (a : At (c .before .before .before .before .before .before .before .before .before .before .args .rows .now) (c .before .before .before .before .before .before .before .before .before .before .args .root) r) → let s = c .before .before .before .before .before .before .before .before .before .before in let w = s .args .rows .now in let i = s .args .root in TwoView w i (kindAt w i) (xAt w i) (yAt w i) (sizeAt w i) r
 unfolding kindAt
-two-of t c a = as-two (row-words _ _ (root a .inside)) a (sym (c .before .before .shape-of .ensures) ∙ c .enum-told5 .given .1)
+two-of t c a = as-two (found-row _ _ (root a .inside)) a (sym (c .before .before .shape-of .ensures) ∙ c .enum-told5 .given .1)
 
 -- the size word of the right child
 right-size : (t : ℕ) (c : bottom-lts.After-wide3 (calls-bottom t) (bottom-at t) bottom.Post) {r : Expr Span} (a : At (c .before .before .before .before .before .before .before .before .before .before .before .before .args .rows .now) (c .before .before .before .before .before .before .before .before .before .before .before .before .args .root) r) → c .wide3 .result ≡ size (two-of t (c .before .before) a .right)
@@ -217,14 +217,14 @@ bottom-same-length-6 t c = search needs
 
 bottom-returns-3 : (t : ℕ) → bottom-lts.Need-returns-3 (calls-bottom t) (bottom-at t) bottom.Post
 unfolding kindAt xAt yAt
-bottom-returns-3 t c = λ r a. unrolled-lit _ (c .before .before .before .before .put-lit .result) _ _ _ _ _ _ _ (as-lit (row-words _ _ (root a .inside)) a (is-lit t (c .before .before .before .before .before .before .before .before .before))) (c .before .before .before .before .before .before .before .before .wide .ensures) (c .before .before .before .before .before .before .before .wide2 .ensures) (c .before .before .before .before .put-lit .ensures)
+bottom-returns-3 t c = λ r a. unrolled-lit _ (c .before .before .before .before .put-lit .result) _ _ _ _ _ _ _ (as-lit (found-row _ _ (root a .inside)) a (is-lit t (c .before .before .before .before .before .before .before .before .before))) (c .before .before .before .before .before .before .before .before .wide .ensures) (c .before .before .before .before .before .before .before .wide2 .ensures) (c .before .before .before .before .put-lit .ensures)
 
 bottom-same-length-7 : (t : ℕ) → bottom-lts.Need-same-length-7 (calls-bottom t) (bottom-at t) bottom.Post
 bottom-same-length-7 t c = search needs
 
 bottom-returns-4 : (t : ℕ) → bottom-lts.Need-returns-4 (calls-bottom t) (bottom-at t) bottom.Post
 unfolding kindAt xAt yAt
-bottom-returns-4 t c = λ r a. unrolled-num _ (c .before .before .put-row .result) _ _ _ _ (as-num (row-words _ _ (root a .inside)) a (sym (c .before .before .before .before .before .before .shape-of .ensures) ∙ c .before .before .before .before .enum-told2 .given .1)) (c .before .before .before .before .before .before .before .before .before .before .before .before .before .before .pre .1 .1 .1 .0 .text) (c .before .before .put-row .ensures)
+bottom-returns-4 t c = λ r a. unrolled-num _ (c .before .before .put-row .result) _ _ _ _ (as-num (found-row _ _ (root a .inside)) a (sym (c .before .before .before .before .before .before .shape-of .ensures) ∙ c .before .before .before .before .enum-told2 .given .1)) (c .before .before .before .before .before .before .before .before .before .before .before .before .before .before .pre .1 .1 .1 .0 .text) (c .before .before .put-row .ensures)
 
 bottom-same-length-8 : (t : ℕ) → bottom-lts.Need-same-length-8 (calls-bottom t) (bottom-at t) bottom.Post
 bottom-same-length-8 t c = search needs
@@ -234,7 +234,7 @@ bottom-same-length-9 t c = search needs
 
 bottom-returns-5 : (t : ℕ) → bottom-lts.Need-returns-5 (calls-bottom t) (bottom-at t) bottom.Post
 unfolding kindAt xAt yAt
-bottom-returns-5 t c = λ r a. unrolled-skip _ (c .before .before .before .before .copy .result) _ _ _ _ _ (as-skip (row-words _ _ (root a .inside)) a (sym (c .before .before .before .before .before .before .before .before .before .shape-of .ensures) ∙ c .before .before .before .before .before .before .before .enum-told3 .given .1)) (c .before .before .before .before .copy .ensures r a)
+bottom-returns-5 t c = λ r a. unrolled-skip _ (c .before .before .before .before .copy .result) _ _ _ _ _ (as-skip (found-row _ _ (root a .inside)) a (sym (c .before .before .before .before .before .before .before .before .before .shape-of .ensures) ∙ c .before .before .before .before .before .before .before .enum-told3 .given .1)) (c .before .before .before .before .copy .ensures r a)
 
 bottom-returns-6 : (t : ℕ) → bottom-lts.Need-returns-6 (calls-bottom t) (bottom-at t) bottom.Post
 unfolding kindAt

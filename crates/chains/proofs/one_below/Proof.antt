@@ -1,9 +1,9 @@
 -- `one_below` meets its contract: by the shape. Assumes nothing.
 use mathlib.Core.Path.{sym, _∙_}
 use borrow.Author.Needs.{needs}
 use Rattle.chains.proofs.Runs.{else-one}
-use Rattle.unroller.proofs.one_below.Statement.{statement}
-use Rattle.unroller.proofs.one_below.Tie as tie
+use Rattle.chains.proofs.one_below.Statement.{statement}
+use Rattle.chains.proofs.one_below.Tie as tie
 
 shape-of-requires : tie.Need-shape-of-requires
 shape-of-requires c κs = search needs
