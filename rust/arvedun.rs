@@ -7,8 +7,8 @@ pub const ROW_WORDS: usize = 16384;
 pub const TEXT_BYTES: usize = 65536;
 pub const MARK_WORDS: usize = 1024;
 
-/// The stack that a calling thread must have left (ARVEDUN_STACK_BYTES): more than Rust's own threads have unless they are asked to.
-pub const STACK_BYTES: usize = 4 << 20;
+/// The stack that a calling thread must have left (ARVEDUN_STACK_BYTES): half of what Rust's own threads have.
+pub const STACK_BYTES: usize = 1 << 20;
 
 /// The steps, in the report's order.
 pub const STEPS: [&str; 7] = ["rotate", "skip", "unroll", "concatenate", "factor", "list", "restore"];

@@ -1,6 +1,6 @@
 -- A subtree is written from the row below its run up: that row over its children, and then the run. The measure: the size of the subtree, two for each row. Assumes nothing.
 use mathlib.Core.Path.{_≡_, sym, _∙_}
-use Prim.Native.Nat.{ℕ, _+_, _*_}
+use Prim.Native.Nat.{ℕ, _+_, _*_, _<_}
 use native.Mathlib.Omega.{arith}
 use borrow.Author.Needs.{needs}
 use Rattle.grammar.specs.Tree.{Expr, size}
