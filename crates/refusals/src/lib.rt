@@ -497,9 +497,8 @@ fn check_names(rules: &[u32], rows: &[u32], text: &[u8], marks: &mut [u32]) -> V
 }
 
 // Refusals 2 to 6: the lowest that holds. Where none does, a table stands there, and the marks hold its names' hashes and its rules' ends.
-// Full size takes less than 830,000 instructions: each row is read three times, each byte once, each hash compared in its bucket, and a literal
-// past a byte above 127 costs at most 64 bytes more. The worst input has 256 names of 65,000 bytes that share their text, each hashed
-// once: 64 million instructions.
+// Each row is read three times, each byte once or twice, each hash compared in its bucket, and a literal past a byte above 127 costs at most 64
+// bytes more. The worst input has 256 names of 65,000 bytes that share their text, each hashed once: 63 million instructions.
 pub fn check(rules: &[u32], rows: &[u32], text: &[u8], marks: &mut [u32]) -> Verdict
     requires { ⌜ 1024 ≤ length (now marks) ⌝ }
     ensures { λ v. ⌜ Checked v (lent (now (rules .entry)) (now (rows .entry)) (now (text .entry))) (now (marks .exit)) ⌝ }
