@@ -1,107 +1,226 @@
--- Chains of rules in marks: how they are built, what keeps them, and how a search goes along one. Assumes nothing.
-use mathlib.Core.Path.{_≡_, sym, ap, subst, _∙_}
+-- The index of names: halves of marks, ways through it, and what one more rule changes. Assumes nothing.
+use mathlib.Core.Path.{_≡_, refl, sym, ap, subst, _∙_}
+use mathlib.Core.Bool.{Bool, true, false, cond}
 use mathlib.Core.List.{List}
-use Prim.Native.Nat.{ℕ, suc, _+_, _*_, _/_, _%_, _≤_, _<_}
+use Prim.Native.Nat.{ℕ, suc, _+_, _-_, _*_, _/_, _%_, _^_, _≤_, _<_}
 use native.Mathlib.Nat.{mod-lt}
-use native.Mathlib.Numerals.{add-one}
 use native.Mathlib.Decide.{ℕ-discrete, decLt}
 use native.Mathlib.Omega.{arith}
-use lib.ListN.{length, getD, set, length-set}
+use borrow.Author.Tests.{eq-eqb, ne-eqb, eqb-true, eqb-false, lt-ltb, le-ltb}
+use lib.Dec.{eqb, ltb}
+use lib.ListN.{length, getD, set, drop, length-set}
 use lib.Seq.{getD-set-same, getD-set-other}
 use Rattle.grammar.specs.Basic.{Bytes}
-use Rattle.names.specs.Names.{nameOf, rowsBefore, hashOf, marked, withEnds, headAt, nextAt, withHead, withNext, bucketOf, Leads, Linked, NamesInside, Indexed, Hashed}
+use Rattle.names.specs.Names.{nameOf, rowsBefore, hashFrom, bucketOf, halfAt, withHalf, symbolAt, onward, marked, withEnds, NamesInside, Slot, Way, stay, step, Ends, Leads, Shaped, Indexed, Walkable, Hashed, First}
 use Rattle.names.proofs.Marks.{length-marked, marked-other, marked-at}
 
--- ---- chains in marks
+-- ---- halves
 
-pub linked-kept : {bucket : ℕ → ℕ} {n k : ℕ} {m m′ : List ℕ} → Linked bucket n k m → ((i : ℕ) → getD m′ (i * 4 + 2) 0 ≡ getD m (i * 4 + 2) 0) → Linked bucket n k m′
-linked-kept {bucket} {n} {k} h e =
+pub half-of : (m m′ : List ℕ) (h : ℕ) → getD m′ (h / 2) 0 ≡ getD m (h / 2) 0 → halfAt m′ h ≡ halfAt m h
+unfolding halfAt
+half-of m m′ h e = rw e
+
+pub length-half : (m : List ℕ) (h v : ℕ) → length (withHalf m h v) ≡ length m
+unfolding withHalf
+length-half m h v = length-set m (h / 2) _
+
+-- the half that was written
+pub half-same : (m : List ℕ) (h v : ℕ) → h / 2 < length m → v < 65536 → halfAt (withHalf m h v) h ≡ v
+unfolding halfAt withHalf
+half-same m h v l b = rw (getD-set-same m (h / 2) (cond (eqb (h % 2) 0) (getD m (h / 2) 0 / 65536 * 65536 + v) (v * 65536 + getD m (h / 2) 0 % 65536)) 0 l) (go (eqb (h % 2) 0))
+  where
+    go : (t : Bool) → cond t (cond t (getD m (h / 2) 0 / 65536 * 65536 + v) (v * 65536 + getD m (h / 2) 0 % 65536) % 65536) (cond t (getD m (h / 2) 0 / 65536 * 65536 + v) (v * 65536 + getD m (h / 2) 0 % 65536) / 65536) ≡ v
+    go true = omega arith
+    go false = omega arith
+
+-- another half of the same word
+half-beside : (m : List ℕ) (h k v : ℕ) → h / 2 < length m → v < 65536 → (k ≡ h → ⊥) → k / 2 ≡ h / 2 → halfAt (withHalf m h v) k ≡ halfAt m k
+unfolding halfAt withHalf
+half-beside m h k v l b d e = rw (e, getD-set-same m (h / 2) (cond (eqb (h % 2) 0) (getD m (h / 2) 0 / 65536 * 65536 + v) (v * 65536 + getD m (h / 2) 0 % 65536)) 0 l) (go (ℕ-discrete (h % 2) 0))
+  where
+    w : ℕ
+    w = getD m (h / 2) 0
+    go : Dec (h % 2 ≡ 0) → cond (eqb (k % 2) 0) (cond (eqb (h % 2) 0) (w / 65536 * 65536 + v) (v * 65536 + w % 65536) % 65536) (cond (eqb (h % 2) 0) (w / 65536 * 65536 + v) (v * 65536 + w % 65536) / 65536)
+        ≡ cond (eqb (k % 2) 0) (w % 65536) (w / 65536)
+    go (yes z) = rw (eq-eqb (h % 2) 0 z, ne-eqb (k % 2) 0 (λ y. d (omega arith))) (omega arith)
+    go (no z) = rw (ne-eqb (h % 2) 0 z, eq-eqb (k % 2) 0 (omega arith)) (omega arith)
+
+-- a half that was not written
+pub half-other : (m : List ℕ) (h k v : ℕ) → h / 2 < length m → v < 65536 → (k ≡ h → ⊥) → halfAt (withHalf m h v) k ≡ halfAt m k
+unfolding withHalf
+half-other m h k v l b d = go (ℕ-discrete (k / 2) (h / 2))
+  where
+    far : (k / 2 ≡ h / 2 → ⊥) → halfAt (withHalf m h v) k ≡ halfAt m k
+    far n = half-of m (withHalf m h v) k (getD-set-other m (h / 2) (k / 2) _ 0 n)
+    go : Dec (k / 2 ≡ h / 2) → halfAt (withHalf m h v) k ≡ halfAt m k
+    go (yes e) = half-beside m h k v l b d e
+    go (no n) = far n
+
+-- a half by its word
+pub half-low : (m : List ℕ) (h v : ℕ) → h % 2 ≡ 0 → v ≡ getD m (h / 2) 0 % 65536 → v ≡ halfAt m h
+unfolding halfAt
+half-low m h v e f = rw (eq-eqb (h % 2) 0 e) f
+
+pub half-high : (m : List ℕ) (h v : ℕ) → (h % 2 ≡ 0 → ⊥) → v ≡ getD m (h / 2) 0 / 65536 → v ≡ halfAt m h
+unfolding halfAt
+half-high m h v e f = rw (ne-eqb (h % 2) 0 e) f
+
+pub word-low : (w h v r : ℕ) → h % 2 ≡ 0 → r ≡ w / 65536 * 65536 + v → r ≡ cond (eqb (h % 2) 0) (w / 65536 * 65536 + v) (v * 65536 + w % 65536)
+word-low w h v r e f = rw (eq-eqb (h % 2) 0 e) f
+
+pub word-high : (w h v r : ℕ) → (h % 2 ≡ 0 → ⊥) → r ≡ v * 65536 + w % 65536 → r ≡ cond (eqb (h % 2) 0) (w / 65536 * 65536 + v) (v * 65536 + w % 65536)
+word-high w h v r e f = rw (ne-eqb (h % 2) 0 e) f
+
+pub set-is : (m : List ℕ) (h v w : ℕ) → w ≡ cond (eqb (h % 2) 0) (getD m (h / 2) 0 / 65536 * 65536 + v) (v * 65536 + getD m (h / 2) 0 % 65536) → set m (h / 2) w ≡ withHalf m h v
+unfolding withHalf
+set-is m h v w e = rw e
+
+-- a word of two halves that are the same
+pub half-both : (m : List ℕ) (h v : ℕ) → v < 65536 → getD m (h / 2) 0 ≡ v * 65536 + v → halfAt m h ≡ v
+unfolding halfAt
+half-both m h v b e = rw e (go (eqb (h % 2) 0))
+  where
+    go : (t : Bool) → cond t ((v * 65536 + v) % 65536) ((v * 65536 + v) / 65536) ≡ v
+    go true = omega arith
+    go false = omega arith
+
+-- ---- ways
+
+-- a slot of node k
+pub record Under (n k s : ℕ) : Type 0 where
+  pub slot : Slot n s
+  pub node : s / 8 ≡ k
+  pub low : s % 8 ≡ 1 → ⊥
+
+module _ (name : ℕ → Bytes) (m : List ℕ) (key : Bytes) (k : ℕ) where
+  pub onward-same : symbolAt (name k) (halfAt m (k * 8)) ≡ symbolAt key (halfAt m (k * 8)) → k * 8 + 5 ≡ onward name m key k
+  unfolding onward
+  onward-same e = rw (eq-eqb _ _ e)
+
+  pub onward-other : (symbolAt (name k) (halfAt m (k * 8)) ≡ symbolAt key (halfAt m (k * 8)) → ⊥) → k * 8 + 4 ≡ onward name m key k
+  unfolding onward
+  onward-other e = rw (ne-eqb _ _ e)
+
+  pub onward-under : (n : ℕ) → k < n → Under n k (onward name m key k)
+  unfolding onward
+  onward-under n l = go (eqb (symbolAt (name k) (halfAt m (k * 8))) (symbolAt key (halfAt m (k * 8))))
+    where
+      go : (b : Bool) → Under n k (cond b (k * 8 + 5) (k * 8 + 4))
+      go true = record { slot = record { inside = omega arith; word = omega arith; place = omega arith }; node = omega arith; low = λ e. omega arith }
+      go false = record { slot = record { inside = omega arith; word = omega arith; place = omega arith }; node = omega arith; low = λ e. omega arith }
+
+module _ {n k : ℕ} {name : ℕ → Bytes} {m : List ℕ} {key : Bytes} where
+  -- one node more
+  pub way-more : {s e : ℕ} (j : ℕ) → Way n k name m key s e → halfAt m e ≡ n + j → 1 ≤ j → j < k → Way n k name m key s (onward name m key j)
+  way-more j stay h a b = step j h a b stay
+  way-more j (step i g c d w) h a b = step i g c d (way-more j w h a b)
+
+  -- a way ends at one slot
+  pub way-one : {s e f : ℕ} → Way n k name m key s e → Way n k name m key s f → halfAt m e ≤ n → halfAt m f ≤ n → e ≡ f
+  way-one stay stay a b = refl
+  way-one stay (step j h c d w) a b = absurd (omega arith)
+  way-one (step j h c d w) stay a b = absurd (omega arith)
+  way-one (step j h c d w) (step i g x y v) a b = let z : i ≡ j = omega arith in way-one w (rw z at v) a b
+
+  -- it stays among the slots, and those of nodes below k
+  pub way-slot : {s e : ℕ} → k ≤ n → Slot n s → Way n k name m key s e → Slot n e
+  way-slot b p stay = p
+  way-slot b p (step j h c d w) = way-slot b (onward-under name m key j n (omega arith) .slot) w
+
+  pub way-known : {s e : ℕ} → k ≤ n → (k * 8 ≤ s → s % 8 ≡ 1) → Way n k name m key s e → k * 8 ≤ e → e % 8 ≡ 1
+  way-known b p stay = p
+  way-known b p (step j h c d w) = let u : Under n j (onward name m key j) = onward-under name m key j n (omega arith) in way-known b (λ x. absurd (omega (arith, u .node))) w
+
+-- marks that differ in no node that is passed
+module _ (n k k′ : ℕ) (name : ℕ → Bytes) (m m′ : List ℕ) (key : Bytes) (l : k ≤ k′)
+    (slots : (s : ℕ) → Slot n s → n < halfAt m s → halfAt m′ s ≡ halfAt m s) (asked : (j : ℕ) → j < k → halfAt m′ (j * 8) ≡ halfAt m (j * 8)) where
+  onward-kept : (j : ℕ) → j < k → onward name m′ key j ≡ onward name m key j
+  unfolding onward
+  onward-kept j h = rw (asked j h)
+
+  pub way-kept : {s e : ℕ} → k ≤ n → Slot n s → Way n k name m key s e → Way n k′ name m′ key s e
+  way-kept b p stay = stay
+  way-kept {e = e} b p (step j h c d w) =
+      let u : Under n j (onward name m key j) = onward-under name m key j n (omega arith) in
+      let v : Way n k′ name m′ key (onward name m key j) e = way-kept b (u .slot) w in
+      step j (slots _ p (omega arith) ∙ h) c (omega arith) (rw (← onward-kept j d) at v)
+
+-- ---- searches
+
+-- how many nodes may be left on a way that has come to a slot that holds r
+abbrev pub stepsLeft : ℕ → ℕ → ℕ
+stepsLeft n r = cond (ltb n r) (suc (n + n) - r) 0
+
+pub steps-less : (n r q : ℕ) → n < r → r ≤ n + n → (n < q → r < q) → stepsLeft n q < stepsLeft n r
+steps-less n r q h l f = rw (lt-ltb n r h) (go (decLt n q))
+  where
+    go : Dec (n < q) → stepsLeft n q < suc (n + n) - r
+    go (yes a) = let b : r < q = f a in rw (lt-ltb n q a) (omega arith)
+    go (no a) = rw (le-ltb n q (omega arith)) (omega arith)
+
+module _ {rules : List ℕ} {text : Bytes} {marks : List ℕ} (h : Hashed rules text marks) (key : Bytes) {s : ℕ}
+    (e : Ends (length rules / 4) (length rules / 4) (nameOf rules text) marks key s) where
+  -- THE LAW OF SEARCH: where the way of a name ends, the rule of that name is
+  pub ends-with : (j : ℕ) → j < length rules / 4 → nameOf rules text j ≡ key → halfAt marks s ≡ j
+  ends-with j l q =
+      let f : Leads (length rules / 4) (length rules / 4) (nameOf rules text) marks (nameOf rules text j) j = h .indexed .leads j l in
+      let v : Way (length rules / 4) (length rules / 4) (nameOf rules text) marks key (bucketOf (length rules / 4) key * 8 + 1) (f .slot) = rw q at (f .way) in
+      let z : f .slot ≡ s = way-one v (e .way) (omega (arith, f .is)) (e .last) in
+      ap (halfAt marks) (sym z) ∙ f .is
+
+  pub found : {i : ℕ} → i ≡ halfAt marks s → i < length rules / 4 → nameOf rules text i ≡ key → First (length rules / 4) rules text key i
+  found {i} w l q = record { below = l; same = q; first = λ j b x. let z : halfAt marks s ≡ j = ends-with j (omega arith) x in omega arith }
+
+  pub found-known : {i k : ℕ} → i ≡ halfAt marks s → First (length rules / 4) rules text key k → First (length rules / 4) rules text key i
+  found-known {i} {k} w f = let z : halfAt marks s ≡ k = ends-with k (f .below) (f .same) in let y : i ≡ k = w ∙ z in rw y f
+
+  pub nothing : {i : ℕ} → i ≡ halfAt marks s → (i < length rules / 4 → nameOf rules text i ≡ key → ⊥) → (j : ℕ) → j < length rules / 4 → nameOf rules text j ≡ key → ⊥
+  nothing {i} w d j l q = let z : halfAt marks s ≡ j = ends-with j l q in let y : i ≡ j = w ∙ z in d (omega arith) (rw y q)
+
+-- ---- what keeps an index
+
+pub shaped-kept : {n k : ℕ} {m m′ : List ℕ} → Shaped n k m → ((s : ℕ) → Slot n s → halfAt m′ s ≡ halfAt m s) → Shaped n k m′
+shaped-kept h e =
     record {
-      head = λ b l. subst (λ (w : ℕ). Leads bucket n b k (w % 65536)) (sym (e b)) (h .head b l);
-      next = λ i l r. subst (λ (w : ℕ). Leads bucket n (bucket i) (suc i) (w / 65536)) (sym (e i)) (h .next i l r);
+      rule = λ s f b. let z = e s f in let y = h .rule s f (omega arith) in omega arith;
+      most = λ s f. let z = e s f in omega (arith, h .most s f);
+      later = λ s f a b. let z = e s f in let y = h .later s f a (omega arith) in omega arith;
+      empty = λ s f a b. e s f ∙ h .empty s f a b;
     }
 
--- no rule is in a chain
-pub linked-none : (bucket : ℕ → ℕ) (n : ℕ) (m : List ℕ) → n < 65536 → n * 4 ≤ length m → Linked bucket n n (marked (λ _. n) 2 n m)
-linked-none bucket n m s l =
-    record {
-      head = λ b k. let e : headAt (marked (λ _. n) 2 n m) b ≡ n = omega (arith, marked-at (λ _. n) 2 n m b (omega arith) l k) in
-          rw e (record { low = omega arith; most = omega arith; here = λ h. absurd (omega arith); none = λ j h g. absurd (omega arith) });
-      next = λ i h g. absurd (omega arith);
-    }
-
--- rule i comes before the others of its bucket b
-module _ {bucket : ℕ → ℕ} {n i b : ℕ} {m : List ℕ} (h : Linked bucket n (suc i) m) (l : i < n) (s : n < 65536) (g : n * 4 ≤ length m) (c : b < n) (q : bucket i ≡ b) where
-  abbrev one : List ℕ
-  one = withNext m i (headAt m b)
-
-  abbrev two : List ℕ
-  two = withHead one b i
-
-  one-at : getD one (i * 4 + 2) 0 ≡ headAt m b * 65536 + headAt m i
-  one-at = getD-set-same m (i * 4 + 2) (headAt m b * 65536 + headAt m i) 0 (omega arith)
-
-  one-other : (j : ℕ) → (j ≡ i → ⊥) → getD one (j * 4 + 2) 0 ≡ getD m (j * 4 + 2) 0
-  one-other j d = getD-set-other m (i * 4 + 2) (j * 4 + 2) (headAt m b * 65536 + headAt m i) 0 (λ e. d (omega arith))
-
-  one-head : (j : ℕ) → headAt one j ≡ headAt m j
-  one-head j = go (ℕ-discrete j i)
-    where
-      go : Dec (j ≡ i) → headAt one j ≡ headAt m j
-      go (yes e) = rw e (omega (arith, one-at))
-      go (no d) = omega (arith, one-other j d)
-
-  two-at : getD two (b * 4 + 2) 0 ≡ nextAt one b * 65536 + i
-  two-at = getD-set-same one (b * 4 + 2) (nextAt one b * 65536 + i) 0 (omega (arith, length-set m (i * 4 + 2) (headAt m b * 65536 + headAt m i)))
-
-  two-other : (j : ℕ) → (j ≡ b → ⊥) → getD two (j * 4 + 2) 0 ≡ getD one (j * 4 + 2) 0
-  two-other j d = getD-set-other one (b * 4 + 2) (j * 4 + 2) (nextAt one b * 65536 + i) 0 (λ e. d (omega arith))
-
-  two-next : (j : ℕ) → nextAt two j ≡ nextAt one j
-  two-next j = go (ℕ-discrete j b)
-    where
-      go : Dec (j ≡ b) → nextAt two j ≡ nextAt one j
-      go (yes e) = rw e (omega (arith, two-at))
-      go (no d) = omega (arith, two-other j d)
-
-  heads : (a : ℕ) → a < n → Dec (a ≡ b) → Leads bucket n a i (headAt two a)
-  heads a k (yes e) =
-      let z : headAt two a ≡ i = rw e (omega (arith, two-at)) in
-      rw (z, e) (record { low = omega arith; most = omega arith; here = λ _. q; none = λ j x y. absurd (omega arith) })
-  heads a k (no d) =
-      let z : headAt two a ≡ headAt m a = omega (arith, two-other a d, one-head a) in
-      let f : Leads bucket n a (suc i) (headAt m a) = h .head a k in
-      rw z (record { low = omega (arith, f .low); most = f .most; here = f .here; none = λ j x y e. go j x y e f (ℕ-discrete j i) })
-    where
-      go : (j : ℕ) → i ≤ j → j < headAt m a → bucket j ≡ a → Leads bucket n a (suc i) (headAt m a) → Dec (j ≡ i) → ⊥
-      go j x y e f (yes w) = d (sym e ∙ ap bucket w ∙ q)
-      go j x y e f (no w) = f .none j (omega arith) y e
-
-  nexts : (j : ℕ) → i ≤ j → j < n → Dec (j ≡ i) → Leads bucket n (bucket j) (suc j) (nextAt two j)
-  nexts j x y (yes e) =
-      let z : nextAt two j ≡ headAt m b = two-next j ∙ ap (nextAt one) e ∙ halved in
-      let f : Leads bucket n b (suc i) (headAt m b) = h .head b c in
-      rw (z, e, q) f
-    where
-      halved : nextAt one i ≡ headAt m b
-      halved = omega (arith, one-at)
-  nexts j x y (no d) =
-      let z : nextAt two j ≡ nextAt m j = omega (arith, two-next j, one-other j d) in
-      rw z (h .next j (omega arith) y)
-
-  pub linked-more : Linked bucket n i two
-  linked-more = record { head = λ a k. heads a k (ℕ-discrete a b); next = λ j x y. nexts j x y (ℕ-discrete j i) }
+-- where the tree of a name starts
+pub start-slot : (n : ℕ) (key : Bytes) → 0 < n → Slot n (bucketOf n key * 8 + 1)
+unfolding bucketOf
+start-slot n key p = let l = mod-lt (hashFrom (length key % 2 ^ 32) (drop (length key - 12) key)) p in record { inside = omega arith; word = omega arith; place = omega arith }
 
 -- words 0 and 2 of the marks are all that counts
+pub indexed-kept : {k : ℕ} {rules : List ℕ} {text : Bytes} {m m′ : List ℕ} → Indexed k rules text m → length m′ ≡ length m
+    → ((i : ℕ) → getD m′ (i * 4) 0 ≡ getD m (i * 4) 0) → ((i : ℕ) → getD m′ (i * 4 + 2) 0 ≡ getD m (i * 4 + 2) 0) → Indexed k rules text m′
+indexed-kept {k} {rules} {text} {m} {m′} h l a b =
+    record {
+      few = h .few;
+      upTo = h .upTo;
+      long = omega (arith, h .long, l);
+      shaped = shaped-kept (h .shaped) (λ s f. same s (f .word));
+      leads = λ i c. let f = h .leads i c in
+          record {
+            slot = f .slot;
+            way = way-kept n k k (nameOf rules text) m m′ (nameOf rules text i) (omega arith) (λ s g _. same s (g .word)) (λ j _. same (j * 8) (omega arith)) (h .upTo) (start-slot n (nameOf rules text i) (omega (arith, h .upTo))) (f .way);
+            is = same (f .slot) (way-slot (h .upTo) (start-slot n (nameOf rules text i) (omega (arith, h .upTo))) (f .way) .word) ∙ f .is;
+          };
+    }
+  where
+    n : ℕ
+    n = length rules / 4
+    word : (s : ℕ) → s % 4 < 2 → Dec (s % 8 < 2) → getD m′ (s / 2) 0 ≡ getD m (s / 2) 0
+    word s f (yes e) = let z : s / 2 ≡ s / 8 * 4 = omega arith in rw z (a (s / 8))
+    word s f (no e) = let z : s / 2 ≡ s / 8 * 4 + 2 = omega arith in rw z (b (s / 8))
+    same : (s : ℕ) → s % 4 < 2 → halfAt m′ s ≡ halfAt m s
+    same s f = half-of m m′ s (word s f (decLt (s % 8) 2))
+
 pub hashed-kept : {rules : List ℕ} {text : Bytes} {m m′ : List ℕ} → Hashed rules text m → length m′ ≡ length m
     → ((i : ℕ) → getD m′ (i * 4) 0 ≡ getD m (i * 4) 0) → ((i : ℕ) → getD m′ (i * 4 + 2) 0 ≡ getD m (i * 4 + 2) 0) → Hashed rules text m′
-hashed-kept {rules} {text} h l a b =
-    record {
-      inside = h .inside;
-      long = omega (arith, h .long, l);
-      hash = λ i k. a i ∙ h .hash i k;
-      linked = linked-kept (h .linked) b;
-    }
+hashed-kept h l a b = record { inside = h .inside; long = omega (arith, h .long, l); indexed = indexed-kept (h .indexed) l a b }
 
 pub hashed-ends : (rules : List ℕ) (text : Bytes) (m : List ℕ) → Hashed rules text m → Hashed rules text (withEnds rules m)
 hashed-ends rules text m h =
@@ -109,95 +228,226 @@ hashed-ends rules text m h =
     let n : ℕ = length rules / 4 in
     hashed-kept h (length-marked f 3 n m) (λ i. marked-other f 3 n m (i * 4) (λ k l e. omega arith)) (λ i. marked-other f 3 n m (i * 4 + 2) (λ k l e. omega arith))
 
--- ---- the rules one by one, from the last to the first
+-- ---- one rule more
 
--- what `link` writes
-pub link-is : (m : List ℕ) (i b : ℕ) {p q r u v : ℕ} → p ≡ headAt m b → q ≡ headAt m i → u ≡ p * 65536 + q → r ≡ getD (set m (i * 4 + 2) u) (b * 4 + 2) 0 / 65536 → v ≡ r * 65536 + i
-    → set (set m (i * 4 + 2) u) (b * 4 + 2) v ≡ withHead (withNext m i (headAt m b)) b i
-link-is m i b hp hq hu hr hv = rw (hv, hr, hu, hp, hq)
+module _ {rules : List ℕ} {text : Bytes} {m : List ℕ} {i s : ℕ} (h : Indexed i rules text m) (l : i < length rules / 4)
+    (e : Ends (length rules / 4) i (nameOf rules text) m (nameOf rules text i) s) where
+  abbrev n : ℕ
+  n = length rules / 4
 
-pub indexed-none : (rules : List ℕ) (text : Bytes) (m : List ℕ) {m′ : List ℕ} → length rules / 4 < 65536 → length rules / 4 * 4 ≤ length m → m′ ≡ marked (λ _. length rules / 4) 2 (length rules / 4) m → Indexed (length rules / 4) rules text m′
-indexed-none rules text m s l e =
-    let n : ℕ = length rules / 4 in
-    rw e (record {
-      long = omega (arith, l, length-marked (λ _. n) 2 n m);
-      hash = λ i h k. absurd (omega arith);
-      linked = linked-none (bucketOf rules text) n m s l;
-    })
+  abbrev name : ℕ → Bytes
+  name = nameOf rules text
 
-module _ {rules : List ℕ} {text : Bytes} {i : ℕ} {m : List ℕ} (h : Indexed (i + 1) rules text m) (l : i < length rules / 4) (s : length rules / 4 < 65536) {v b : ℕ} (e : v ≡ hashOf (nameOf rules text i)) (q : b ≡ v % (length rules / 4)) where
-  abbrev count : ℕ
-  count = length rules / 4
+  start : (j : ℕ) → Slot n (bucketOf n (name j) * 8 + 1)
+  start j = start-slot n (name j) (omega arith)
 
-  abbrev hashes : List ℕ
-  hashes = set m (i * 4) v
+  pub here : Slot n s
+  here = way-slot (h .upTo) (start i) (e .way)
 
-  bucket-below : b < count
-  bucket-below = rw q (mod-lt v (omega arith))
+  known : i * 8 ≤ s → s % 8 ≡ 1
+  known = way-known (h .upTo) (λ _. omega arith) (e .way)
 
-  bucket-is : bucketOf rules text i ≡ b
-  bucket-is = ap (λ (x : ℕ). x % count) (sym e) ∙ sym q
+  -- its bucket is empty: rule i goes there
+  module _ (z : halfAt m s ≡ n) where
+    abbrev more : List ℕ
+    more = withHalf m s i
 
-  hashes-long : length hashes ≡ length m
-  hashes-long = length-set m (i * 4) v
+    more-other : (t : ℕ) → (t ≡ s → ⊥) → halfAt more t ≡ halfAt m t
+    more-other t d = half-other m s t i (omega (arith, here .inside, h .long)) (omega (arith, h .few)) d
 
-  hashes-linked : Linked (bucketOf rules text) count (suc i) hashes
-  hashes-linked = linked-kept (rw add-one at (h .linked)) (λ j. getD-set-other m (i * 4) (j * 4 + 2) v 0 (λ z. omega arith))
+    more-here : halfAt more s ≡ i
+    more-here = half-same m s i (omega (arith, here .inside, h .long)) (omega (arith, h .few))
 
-  abbrev linked : List ℕ
-  linked = withHead (withNext hashes i (headAt hashes b)) b i
+    more-way : (j : ℕ) {t : ℕ} → Way n i name m (name j) (bucketOf n (name j) * 8 + 1) t → Way n (suc i) name more (name j) (bucketOf n (name j) * 8 + 1) t
+    more-way j w = way-kept n i (suc i) name m more (name j) (omega arith) (λ t f b. more-other t (λ q. let y = ap (halfAt m) q in omega arith)) (λ k b. more-other (k * 8) (λ q. omega (arith, here .place))) (h .upTo) (start j) w
 
-  linked-long : length linked ≡ length m
-  linked-long = length-set (withNext hashes i (headAt hashes b)) (b * 4 + 2) _ ∙ length-set hashes (i * 4 + 2) _ ∙ hashes-long
+    more-leads : (j : ℕ) → j < suc i → Dec (j ≡ i) → Leads n (suc i) name more (name j) j
+    more-leads j b (yes q) = rw q (record { slot = s; way = more-way i (e .way); is = more-here })
+    more-leads j b (no q) = let f = h .leads j (omega arith) in record { slot = f .slot; way = more-way j (f .way); is = more-other (f .slot) (λ x. let y = ap (halfAt m) x in omega (arith, f .is)) ∙ f .is }
 
-  linked-hash : (j : ℕ) → getD linked (j * 4) 0 ≡ getD hashes (j * 4) 0
-  linked-hash j = getD-set-other (withNext hashes i (headAt hashes b)) (b * 4 + 2) (j * 4) _ 0 (λ z. omega arith) ∙ getD-set-other hashes (i * 4 + 2) (j * 4) _ 0 (λ z. omega arith)
-
-  hash-at : (j : ℕ) → i ≤ j → j < count → Dec (j ≡ i) → getD hashes (j * 4) 0 ≡ hashOf (nameOf rules text j)
-  hash-at j x y (yes z) = rw z (getD-set-same m (i * 4) v 0 (omega (arith, h .long)) ∙ e)
-  hash-at j x y (no z) = getD-set-other m (i * 4) (j * 4) v 0 (λ w. z (omega arith)) ∙ h .hash j (omega arith) y
-
-  pub indexed-more : {m′ : List ℕ} → m′ ≡ linked → Indexed i rules text m′
-  indexed-more w =
-      rw w (record {
-        long = omega (arith, h .long, linked-long);
-        hash = λ j x y. linked-hash j ∙ hash-at j x y (ℕ-discrete j i);
-        linked = linked-more hashes-linked l s (omega (arith, h .long, hashes-long)) bucket-below bucket-is;
-      })
-
-pub indexed-all : {rules : List ℕ} {text : Bytes} {m : List ℕ} → NamesInside rules (length text) → Indexed 0 rules text m → Hashed rules text m
-indexed-all k h = record { inside = k; long = h .long; hash = λ i. h .hash i (omega arith); linked = h .linked }
-
--- ---- a search along a chain
-
--- it has come to rule i, or there is none left
-pub record Along (rules : List ℕ) (text key : Bytes) (i : ℕ) : Type 0 where
-  pub most : i ≤ length rules / 4
-  pub here : i < length rules / 4 → bucketOf rules text i ≡ hashOf key % (length rules / 4)
-  pub none : (j : ℕ) → j < i → nameOf rules text j ≡ key → ⊥
-
--- names that are the same are in the same bucket
-same-bucket : (rules : List ℕ) (text key : Bytes) (j : ℕ) → nameOf rules text j ≡ key → bucketOf rules text j ≡ hashOf key % (length rules / 4)
-same-bucket rules text key j e = ap (λ (x : Bytes). hashOf x % (length rules / 4)) e
-
-module _ {rules : List ℕ} {text : Bytes} {marks : List ℕ} (h : Hashed rules text marks) (key : Bytes) where
-  pub along-start : {v b i : ℕ} → 0 < length rules / 4 → v ≡ hashOf key → b ≡ v % (length rules / 4) → i ≡ headAt marks b → Along rules text key i
-  along-start {b = b} p e q w =
-      let z : b ≡ hashOf key % (length rules / 4) = q ∙ ap (λ (x : ℕ). x % (length rules / 4)) e in
-      let f : Leads (bucketOf rules text) (length rules / 4) (hashOf key % (length rules / 4)) 0 (headAt marks (hashOf key % (length rules / 4))) = h .linked .head (hashOf key % (length rules / 4)) (mod-lt (hashOf key) p) in
-      rw (w, z) (record { most = f .most; here = f .here; none = λ j l d. f .none j (omega arith) l (same-bucket rules text key j d) })
-
-  module _ {i : ℕ} (a : Along rules text key i) (l : i < length rules / 4) where
-    next-leads : Leads (bucketOf rules text) (length rules / 4) (bucketOf rules text i) (suc i) (nextAt marks i)
-    next-leads = h .linked .next i (omega arith) l
-
-    pub along-less : i < nextAt marks i
-    along-less = omega (arith, next-leads .low)
-
-    pub along-next : {k : ℕ} → k ≡ nextAt marks i → (nameOf rules text i ≡ key → ⊥) → Along rules text key k
-    along-next w d = rw w (record { most = next-leads .most; here = λ x. next-leads .here x ∙ a .here l; none = λ j x e. go j x e (ℕ-discrete j i) (decLt j i) })
+    more-shaped : Shaped n (suc i) more
+    more-shaped =
+        record {
+          rule = λ t f. rule t f (ℕ-discrete t s);
+          most = λ t f. most t f (ℕ-discrete t s);
+          later = λ t f a. later t f a (ℕ-discrete t s);
+          empty = λ t f a b. more-other t (λ q. a (ap (λ (u : ℕ). u % 8) q ∙ known (omega arith))) ∙ h .shaped .empty t f a (omega arith);
+        }
       where
-        go : (j : ℕ) → j < nextAt marks i → nameOf rules text j ≡ key → Dec (j ≡ i) → Dec (j < i) → ⊥
-        go j x e (yes z) _ = d (ap (nameOf rules text) (sym z) ∙ e)
-        go j x e (no z) (yes y) = a .none j y e
-        go j x e (no z) (no y) = next-leads .none j (omega arith) x (same-bucket rules text key j e ∙ sym (a .here l))
+        rule : (t : ℕ) → Slot n t → Dec (t ≡ s) → halfAt more t < n → halfAt more t < suc i
+        rule t f (yes q) b = let y = ap (halfAt more) q in omega (arith, more-here)
+        rule t f (no q) b = let y = more-other t q in let x = h .shaped .rule t f (omega arith) in omega arith
+        most : (t : ℕ) → Slot n t → Dec (t ≡ s) → halfAt more t ≤ n + (suc i - 1)
+        most t f (yes q) = let y = ap (halfAt more) q in omega (arith, more-here)
+        most t f (no q) = let y = more-other t q in omega (arith, h .shaped .most t f)
+        later : (t : ℕ) → Slot n t → (t % 8 ≡ 1 → ⊥) → Dec (t ≡ s) → n < halfAt more t → n + t / 8 < halfAt more t
+        later t f a (yes q) b = let y = ap (halfAt more) q in absurd (omega (arith, more-here))
+        later t f a (no q) b = let y = more-other t q in let x = h .shaped .later t f a (omega arith) in omega arith
+
+    pub index-first : Indexed (suc i) rules text more
+    index-first = record { few = h .few; upTo = omega arith; long = omega (arith, h .long, length-half m s i); shaped = more-shaped; leads = λ j b. more-leads j b (ℕ-discrete j i) }
+
+  -- rule j is there: a node takes its place, and tells the two apart at position d
+  module _ {j d : ℕ} (z : j ≡ halfAt m s) (b : j < n) (small : d < 65536) (differ : symbolAt (name j) d ≡ symbolAt (name i) d → ⊥) where
+    abbrev one : List ℕ
+    one = withHalf m (i * 8) d
+
+    abbrev two : List ℕ
+    two = withHalf one (i * 8 + 4) j
+
+    abbrev three : List ℕ
+    three = withHalf two (i * 8 + 5) i
+
+    abbrev forked : List ℕ
+    forked = withHalf three s (n + i)
+
+    length-one : length one ≡ length m
+    length-one = length-half m (i * 8) d
+
+    length-two : length two ≡ length m
+    length-two = length-half one (i * 8 + 4) j ∙ length-one
+
+    length-three : length three ≡ length m
+    length-three = length-half two (i * 8 + 5) i ∙ length-two
+
+    pub length-forked : length forked ≡ length m
+    length-forked = length-half three s (n + i) ∙ length-three
+
+    before : j < i
+    before = let y = h .shaped .rule s here (omega arith) in omega arith
+
+    -- the slots of node i were empty
+    else-slot : Slot n (i * 8 + 4)
+    else-slot = record { inside = omega arith; word = omega arith; place = omega arith }
+
+    same-slot : Slot n (i * 8 + 5)
+    same-slot = record { inside = omega arith; word = omega arith; place = omega arith }
+
+    not-else : (t : ℕ) → (halfAt m t ≡ n → ⊥) → t ≡ i * 8 + 4 → ⊥
+    not-else t a q = a (ap (halfAt m) q ∙ h .shaped .empty (i * 8 + 4) else-slot (λ x. omega arith) (omega arith))
+
+    not-same : (t : ℕ) → (halfAt m t ≡ n → ⊥) → t ≡ i * 8 + 5 → ⊥
+    not-same t a q = a (ap (halfAt m) q ∙ h .shaped .empty (i * 8 + 5) same-slot (λ x. omega arith) (omega arith))
+
+    at-s : halfAt forked s ≡ n + i
+    at-s = half-same three s (n + i) (omega (arith, here .inside, h .long, length-three)) (omega (arith, h .few))
+
+    past-s : (t : ℕ) → (t ≡ s → ⊥) → halfAt forked t ≡ halfAt three t
+    past-s t a = half-other three s t (n + i) (omega (arith, here .inside, h .long, length-three)) (omega (arith, h .few)) a
+
+    past-same : (t : ℕ) → (t ≡ i * 8 + 5 → ⊥) → halfAt three t ≡ halfAt two t
+    past-same t a = half-other two (i * 8 + 5) t i (omega (arith, h .long, length-two)) (omega (arith, h .few)) a
+
+    past-else : (t : ℕ) → (t ≡ i * 8 + 4 → ⊥) → halfAt two t ≡ halfAt one t
+    past-else t a = half-other one (i * 8 + 4) t j (omega (arith, h .long, length-one)) (omega (arith, h .few)) a
+
+    at-same : halfAt forked (i * 8 + 5) ≡ i
+    at-same = past-s (i * 8 + 5) (λ q. not-same s (λ x. omega arith) (sym q)) ∙ half-same two (i * 8 + 5) i (omega (arith, h .long, length-two)) (omega (arith, h .few))
+
+    at-else : halfAt forked (i * 8 + 4) ≡ j
+    at-else = past-s (i * 8 + 4) (λ q. not-else s (λ x. omega arith) (sym q)) ∙ past-same (i * 8 + 4) (λ q. omega arith) ∙ half-same one (i * 8 + 4) j (omega (arith, h .long, length-one)) (omega (arith, h .few))
+
+    at-ask : halfAt forked (i * 8) ≡ d
+    at-ask = past-s (i * 8) (λ q. omega (arith, here .place)) ∙ past-same (i * 8) (λ q. omega arith) ∙ past-else (i * 8) (λ q. omega arith) ∙ half-same m (i * 8) d (omega (arith, h .long)) small
+
+    other : (t : ℕ) → (t ≡ s → ⊥) → (t ≡ i * 8 + 5 → ⊥) → (t ≡ i * 8 + 4 → ⊥) → (t ≡ i * 8 → ⊥) → halfAt forked t ≡ halfAt m t
+    other t a x y w = past-s t a ∙ past-same t x ∙ past-else t y ∙ half-other m (i * 8) t d (omega (arith, h .long)) small w
+
+    -- a slot that was not empty, and not rule j's
+    kept-slot : (t : ℕ) → Slot n t → (halfAt m t ≡ n → ⊥) → (t ≡ s → ⊥) → halfAt forked t ≡ halfAt m t
+    kept-slot t f a x = other t x (not-same t a) (not-else t a) (λ q. omega (arith, f .place))
+
+    forked-way : (k : ℕ) {t : ℕ} → Way n i name m (name k) (bucketOf n (name k) * 8 + 1) t → Way n (suc i) name forked (name k) (bucketOf n (name k) * 8 + 1) t
+    forked-way k w =
+        way-kept n i (suc i) name m forked (name k) (omega arith) (λ t f x. kept-slot t f (λ y. omega arith) (λ q. let y = ap (halfAt m) q in omega arith))
+            (λ k x. other (k * 8) (λ q. omega (arith, here .place)) (λ q. omega arith) (λ q. omega arith) (λ q. omega arith)) (h .upTo) (start k) w
+
+    -- a way that came to rule j goes on through node i
+    further : (k : ℕ) {t : ℕ} → t ≡ s → Way n i name m (name k) (bucketOf n (name k) * 8 + 1) t → Way n (suc i) name forked (name k) (bucketOf n (name k) * 8 + 1) (onward name forked (name k) i)
+    further k q w = way-more i (forked-way k w) (ap (halfAt forked) q ∙ at-s) (omega (arith, before)) (omega arith)
+
+    leads-here : Leads n (suc i) name forked (name i) i
+    leads-here = record { slot = onward name forked (name i) i; way = further i refl (e .way); is = ap (halfAt forked) (sym (onward-same name forked (name i) i refl)) ∙ at-same }
+
+    leads-old : (k : ℕ) → k < i → (f : Leads n i name m (name k) k) → Dec (f .slot ≡ s) → Leads n (suc i) name forked (name k) k
+    leads-old k x f (yes q) =
+        let y : k ≡ j = sym (f .is) ∙ ap (halfAt m) q ∙ sym z in
+        record {
+          slot = onward name forked (name k) i;
+          way = further k q (f .way);
+          is = ap (halfAt forked) (sym (onward-other name forked (name k) i (λ w. differ (rw (← y) (sym (rw at-ask at w)))))) ∙ at-else ∙ sym y;
+        }
+    leads-old k x f (no q) =
+        record { slot = f .slot; way = forked-way k (f .way); is = kept-slot (f .slot) (way-slot (h .upTo) (start k) (f .way)) (λ y. omega (arith, f .is)) q ∙ f .is }
+
+    forked-leads : (k : ℕ) → k < suc i → Dec (k ≡ i) → Leads n (suc i) name forked (name k) k
+    forked-leads k x (yes q) = rw q leads-here
+    forked-leads k x (no q) = let f = h .leads k (omega arith) in leads-old k (omega arith) f (ℕ-discrete (f .slot) s)
+
+    -- what a slot holds afterwards
+    data Holds (t : ℕ) : Type 0 where
+      is-s : t ≡ s → halfAt forked t ≡ n + i → Holds t
+      is-old : halfAt forked t < suc i → t < suc i * 8 → Holds t
+      is-kept : halfAt forked t ≡ halfAt m t → (t ≡ s → ⊥) → Holds t
+
+    holds : (t : ℕ) → Slot n t → Holds t
+    holds t f = go (ℕ-discrete t s) (ℕ-discrete t (i * 8 + 5)) (ℕ-discrete t (i * 8 + 4))
+      where
+        go : Dec (t ≡ s) → Dec (t ≡ i * 8 + 5) → Dec (t ≡ i * 8 + 4) → Holds t
+        go (yes q) _ _ = is-s q (ap (halfAt forked) q ∙ at-s)
+        go (no _) (yes q) _ = is-old (let y = ap (halfAt forked) q in omega (arith, at-same)) (omega arith)
+        go (no _) (no _) (yes q) = is-old (let y = ap (halfAt forked) q in omega (arith, at-else, before)) (omega arith)
+        go (no x) (no y) (no w) = is-kept (other t x y w (λ q. omega (arith, f .place))) x
+
+    forked-shaped : Shaped n (suc i) forked
+    forked-shaped =
+        record {
+          rule = λ t f. rule t f (holds t f);
+          most = λ t f. most t f (holds t f);
+          later = λ t f a. later t f a (holds t f);
+          empty = λ t f a x. empty t f a x (holds t f);
+        }
+      where
+        rule : (t : ℕ) → Slot n t → Holds t → halfAt forked t < n → halfAt forked t < suc i
+        rule t f (is-s q y) x = absurd (omega arith)
+        rule t f (is-old y _) x = y
+        rule t f (is-kept y _) x = let w = h .shaped .rule t f (omega arith) in omega arith
+        most : (t : ℕ) → Slot n t → Holds t → halfAt forked t ≤ n + (suc i - 1)
+        most t f (is-s q y) = omega arith
+        most t f (is-old y _) = omega arith
+        most t f (is-kept y _) = omega (arith, h .shaped .most t f)
+        later : (t : ℕ) → Slot n t → (t % 8 ≡ 1 → ⊥) → Holds t → n < halfAt forked t → n + t / 8 < halfAt forked t
+        later t f a (is-s q y) x = let w : (i * 8 ≤ t → ⊥) = λ v. a (ap (λ (u : ℕ). u % 8) q ∙ known (omega arith)) in omega arith
+        later t f a (is-old y _) x = absurd (omega arith)
+        later t f a (is-kept y _) x = let w = h .shaped .later t f a (omega arith) in omega arith
+        empty : (t : ℕ) → Slot n t → (t % 8 ≡ 1 → ⊥) → suc i * 8 ≤ t → Holds t → halfAt forked t ≡ n
+        empty t f a x (is-s q y) = absurd (a (ap (λ (u : ℕ). u % 8) q ∙ known (omega arith)))
+        empty t f a x (is-old y w) = absurd (omega arith)
+        empty t f a x (is-kept y _) = y ∙ h .shaped .empty t f a (omega arith)
+
+    pub index-fork : Indexed (suc i) rules text forked
+    index-fork = record { few = h .few; upTo = omega arith; long = omega (arith, h .long, length-forked); shaped = forked-shaped; leads = λ k x. forked-leads k x (ℕ-discrete k i) }
+
+-- ---- none yet, all
+
+pub indexed-none : (rules : List ℕ) (text : Bytes) (m : List ℕ) {m′ : List ℕ} → length rules / 4 < 32768 → length rules / 4 * 4 ≤ length m′
+    → ((i : ℕ) → i < length rules / 4 → (getD m′ (i * 4) 0 ≡ length rules / 4 * 65536 + length rules / 4) × (getD m′ (i * 4 + 2) 0 ≡ length rules / 4 * 65536 + length rules / 4)) → Indexed 0 rules text m′
+indexed-none rules text m {m′} few long e =
+    record {
+      few = few;
+      upTo = omega arith;
+      long = long;
+      shaped = record { rule = λ s f b. absurd (omega (arith, none s f)); most = λ s f. omega (arith, none s f); later = λ s f a b. absurd (omega (arith, none s f)); empty = λ s f a b. none s f };
+      leads = λ i b. absurd (omega arith);
+    }
+  where
+    n : ℕ
+    n = length rules / 4
+    word : (s : ℕ) → Slot n s → Dec (s % 8 < 2) → getD m′ (s / 2) 0 ≡ n * 65536 + n
+    word s f (yes a) = let z : s / 2 ≡ s / 8 * 4 = omega (arith, f .word) in rw z (e (s / 8) (omega (arith, f .inside)) .0)
+    word s f (no a) = let z : s / 2 ≡ s / 8 * 4 + 2 = omega (arith, f .word) in rw z (e (s / 8) (omega (arith, f .inside)) .1)
+    none : (s : ℕ) → Slot n s → halfAt m′ s ≡ n
+    none s f = half-both m′ s n (omega arith) (word s f (decLt (s % 8) 2))
+
+pub indexed-all : {rules : List ℕ} {text : Bytes} {m : List ℕ} → NamesInside rules (length text) → Indexed (length rules / 4) rules text m → Hashed rules text m
+indexed-all k h = record { inside = k; long = h .long; indexed = h }

@@ -1,0 +1,35 @@
+use borrow.Author.Needs.{needs}
+use native.Mathlib.Omega.{arith}
+use Rattle.names.proofs.Marks.{bucket-is}
+use borrow.Author.Needs.{needs}
+use Rattle.names.proofs.bucket_of.Statement.{statement}
+use Rattle.names.proofs.bucket_of.Tie as tie
+
+last-from-requires : tie.Need-last-from-requires
+last-from-requires c κs = search needs
+
+add-hash-bytes : tie.Need-add-hash-bytes
+add-hash-bytes c = search needs
+
+sub-hash-bytes : tie.Need-sub-hash-bytes
+sub-hash-bytes c = search needs
+
+hash-bytes-requires : tie.Need-hash-bytes-requires
+hash-bytes-requires c κs = search needs
+
+rem-result : tie.Need-rem-result
+rem-result c = search needs
+
+returns : tie.Need-returns
+returns c = ?
+
+pub bucket-of-spec : {M : Type 1} → statement M
+bucket-of-spec =
+    tie.close
+    (tie.spec
+    last-from-requires
+    add-hash-bytes
+    sub-hash-bytes
+    hash-bytes-requires
+    rem-result
+    returns)
