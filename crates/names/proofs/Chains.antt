@@ -4,6 +4,7 @@ use mathlib.Core.Bool.{Bool, true, false, cond}
 use mathlib.Core.List.{List}
 use Prim.Native.Nat.{ℕ, suc, _+_, _-_, _*_, _/_, _%_, _^_, _≤_, _<_}
 use native.Mathlib.Nat.{mod-lt}
+use native.Mathlib.Numerals.{add-one}
 use native.Mathlib.Decide.{ℕ-discrete, decLt}
 use native.Mathlib.Omega.{arith}
 use borrow.Author.Tests.{eq-eqb, ne-eqb, eqb-true, eqb-false, lt-ltb, le-ltb}
@@ -11,7 +12,10 @@ use lib.Dec.{eqb, ltb}
 use lib.ListN.{length, getD, set, drop, length-set}
 use lib.Seq.{getD-set-same, getD-set-other}
 use Rattle.grammar.specs.Basic.{Bytes}
-use Rattle.names.specs.Names.{nameOf, rowsBefore, hashFrom, bucketOf, halfAt, withHalf, symbolAt, onward, marked, withEnds, NamesInside, Slot, Way, stay, step, Ends, Leads, Shaped, Indexed, Walkable, Hashed, First}
+use Rattle.grammar.specs.Text.{bytesAt}
+use Rattle.names.specs.Names.{nameOf, rowsBefore, hashFrom, bucketOf, halfAt, withHalf, symbolAt, onward, marked, withEnds, NamesInside, Slot, Way, stay, step, Ends, Leads, Shaped, Indexed, Walkable, Hashed, Twice, ApartAnswer, First}
+use Rattle.names.specs.declared.Apart.{Apart}
+use Rattle.names.specs.declared.Apart.the-variants.{Position, Nowhere}
 use Rattle.names.proofs.Marks.{length-marked, marked-other, marked-at}
 
 -- ---- halves
@@ -40,6 +44,7 @@ half-beside m h k v l b d e = rw (e, getD-set-same m (h / 2) (cond (eqb (h % 2) 
   where
     w : ℕ
     w = getD m (h / 2) 0
+
     go : Dec (h % 2 ≡ 0) → cond (eqb (k % 2) 0) (cond (eqb (h % 2) 0) (w / 65536 * 65536 + v) (v * 65536 + w % 65536) % 65536) (cond (eqb (h % 2) 0) (w / 65536 * 65536 + v) (v * 65536 + w % 65536) / 65536)
         ≡ cond (eqb (k % 2) 0) (w % 65536) (w / 65536)
     go (yes z) = rw (eq-eqb (h % 2) 0 z, ne-eqb (k % 2) 0 (λ y. d (omega arith))) (omega arith)
@@ -52,6 +57,7 @@ half-other m h k v l b d = go (ℕ-discrete (k / 2) (h / 2))
   where
     far : (k / 2 ≡ h / 2 → ⊥) → halfAt (withHalf m h v) k ≡ halfAt m k
     far n = half-of m (withHalf m h v) k (getD-set-other m (h / 2) (k / 2) _ 0 n)
+
     go : Dec (k / 2 ≡ h / 2) → halfAt (withHalf m h v) k ≡ halfAt m k
     go (yes e) = half-beside m h k v l b d e
     go (no n) = far n
@@ -74,6 +80,10 @@ word-high w h v r e f = rw (ne-eqb (h % 2) 0 e) f
 pub set-is : (m : List ℕ) (h v w : ℕ) → w ≡ cond (eqb (h % 2) 0) (getD m (h / 2) 0 / 65536 * 65536 + v) (v * 65536 + getD m (h / 2) 0 % 65536) → set m (h / 2) w ≡ withHalf m h v
 unfolding withHalf
 set-is m h v w e = rw e
+
+pub forked-is : (m : List ℕ) (h v h1 v1 h2 v2 h3 v3 : ℕ) {m1 m2 m3 m4 : List ℕ} → m1 ≡ withHalf m h v → m2 ≡ withHalf m1 h1 v1 → m3 ≡ withHalf m2 h2 v2 → m4 ≡ withHalf m3 h3 v3
+    → m4 ≡ withHalf (withHalf (withHalf (withHalf m h v) h1 v1) h2 v2) h3 v3
+forked-is m h v h1 v1 h2 v2 h3 v3 a b c d = cc
 
 -- a word of two halves that are the same
 pub half-both : (m : List ℕ) (h v : ℕ) → v < 65536 → getD m (h / 2) 0 ≡ v * 65536 + v → halfAt m h ≡ v
@@ -108,6 +118,18 @@ module _ (name : ℕ → Bytes) (m : List ℕ) (key : Bytes) (k : ℕ) where
       go : (b : Bool) → Under n k (cond b (k * 8 + 5) (k * 8 + 4))
       go true = record { slot = record { inside = omega arith; word = omega arith; place = omega arith }; node = omega arith; low = λ e. omega arith }
       go false = record { slot = record { inside = omega arith; word = omega arith; place = omega arith }; node = omega arith; low = λ e. omega arith }
+
+-- the same of what was read
+module _ (rules : List ℕ) (text : Bytes) (m : List ℕ) (key : Bytes) (k : ℕ) {d o l a b : ℕ} (hd : d ≡ halfAt m (k * 8)) (ho : o ≡ getD rules (k * 4) 0) (hl : l ≡ getD rules (k * 4 + 1) 0)
+    (ha : a ≡ symbolAt (bytesAt text (o, l)) d) (hb : b ≡ symbolAt key d) where
+  symbols : (a ≡ symbolAt (nameOf rules text k) (halfAt m (k * 8))) × (b ≡ symbolAt key (halfAt m (k * 8)))
+  symbols = (rw (hd, ho, hl) at ha, rw hd at hb)
+
+  pub goes-same : a ≡ b → k * 8 + 5 ≡ onward (nameOf rules text) m key k
+  goes-same e = onward-same (nameOf rules text) m key k (sym (symbols .0) ∙ e ∙ symbols .1)
+
+  pub goes-other : (a ≡ b → ⊥) → k * 8 + 4 ≡ onward (nameOf rules text) m key k
+  goes-other e = onward-other (nameOf rules text) m key k (λ q. e (symbols .0 ∙ q ∙ sym (symbols .1)))
 
 module _ {n k : ℕ} {name : ℕ → Bytes} {m : List ℕ} {key : Bytes} where
   -- one node more
@@ -177,6 +199,54 @@ module _ {rules : List ℕ} {text : Bytes} {marks : List ℕ} (h : Hashed rules 
   pub nothing : {i : ℕ} → i ≡ halfAt marks s → (i < length rules / 4 → nameOf rules text i ≡ key → ⊥) → (j : ℕ) → j < length rules / 4 → nameOf rules text j ≡ key → ⊥
   nothing {i} w d j l q = let z : halfAt marks s ≡ j = ends-with j l q in let y : i ≡ j = w ∙ z in d (omega arith) (rw y q)
 
+-- where the tree of a name starts
+pub start-slot : (n : ℕ) (key : Bytes) → 0 < n → Slot n (bucketOf n key * 8 + 1)
+unfolding bucketOf
+start-slot n key p = let l = mod-lt (hashFrom (length key % 2 ^ 32) (drop (length key - 12) key)) p in record { inside = omega arith; word = omega arith; place = omega arith }
+
+-- no two rules have one name
+pub names-apart : {rules : List ℕ} {text : Bytes} {m : List ℕ} → Hashed rules text m → (j i : ℕ) → j < i → i < length rules / 4 → nameOf rules text j ≡ nameOf rules text i → ⊥
+names-apart {rules} {text} {m} h j i l b e =
+    let f = h .indexed .leads i b in
+    let g = ends-with h (nameOf rules text i) (record { way = f .way; last = omega (arith, f .is) }) j (omega arith) e in
+    omega (arith, f .is)
+
+-- a search that has come to a slot, which holds r
+module _ {rules : List ℕ} {text : Bytes} {m : List ℕ} {key : Bytes} {t r : ℕ} (p : 0 < length rules / 4)
+    (w : (k : ℕ) → Indexed k rules text m → Way (length rules / 4) k (nameOf rules text) m key (bucketOf (length rules / 4) key * 8 + 1) t) (z : r ≡ halfAt m t) (l : length rules / 4 < r) where
+  node-below : (k : ℕ) → Indexed k rules text m → r - length rules / 4 < k
+  node-below k h = omega (arith, h .shaped .most t (way-slot (h .upTo) (start-slot (length rules / 4) key p) (w k h)))
+
+  pub node-there : Walkable rules text m → r - length rules / 4 < length rules / 4
+  node-there h = omega (arith, node-below (h .upTo) (h .indexed), h .indexed .upTo)
+
+  module _ {u : ℕ} (e : u ≡ onward (nameOf rules text) m key (r - length rules / 4)) where
+    under : Walkable rules text m → Under (length rules / 4) (r - length rules / 4) u
+    under h = rw e (onward-under (nameOf rules text) m key (r - length rules / 4) (length rules / 4) (node-there h))
+
+    pub next-slot : Walkable rules text m → u / 2 < length m
+    next-slot h = omega (arith, under h .slot .inside, h .indexed .long)
+
+    pub next-way : (k : ℕ) → Indexed k rules text m → Way (length rules / 4) k (nameOf rules text) m key (bucketOf (length rules / 4) key * 8 + 1) u
+    next-way k h = rw e (way-more (r - length rules / 4) (w k h) (omega arith) (omega arith) (node-below k h))
+
+    pub next-less : {q : ℕ} → Walkable rules text m → q ≡ halfAt m u → stepsLeft (length rules / 4) q < stepsLeft (length rules / 4) r
+    next-less {q} h x =
+        let y = node-there h in
+        steps-less (length rules / 4) r q l (omega arith)
+        (λ b. let v = h .indexed .shaped .later u (under h .slot) (under h .low) (omega arith) in omega (arith, under h .node))
+
+-- where it ends
+pub ends-inside : {k : ℕ} {rules : List ℕ} {text : Bytes} {m : List ℕ} {key : Bytes} {s : ℕ} → 0 < length rules / 4 → Indexed k rules text m → Ends (length rules / 4) k (nameOf rules text) m key s → s / 2 < length m
+ends-inside {rules = rules} {key = key} p h e = omega (arith, way-slot (h .upTo) (start-slot (length rules / 4) key p) (e .way) .inside, h .long)
+
+pub ends-named : (rules : List ℕ) (text : Bytes) (m : List ℕ) (i k s : ℕ) {o p : ℕ} → o ≡ getD rules (i * 4) 0 → p ≡ getD rules (i * 4 + 1) 0
+    → Ends (length rules / 4) k (nameOf rules text) m (bytesAt text (o, p)) s → Ends (length rules / 4) k (nameOf rules text) m (nameOf rules text i) s
+ends-named rules text m i k s ho hp e = rw (ho, hp) at e
+
+pub way-start : {n k : ℕ} {name : ℕ → Bytes} {m : List ℕ} {key : Bytes} {b : ℕ} → b ≡ bucketOf n key → Way n k name m key (bucketOf n key * 8 + 1) (b * 8 + 1)
+way-start e = rw e stay
+
 -- ---- what keeps an index
 
 pub shaped-kept : {n k : ℕ} {m m′ : List ℕ} → Shaped n k m → ((s : ℕ) → Slot n s → halfAt m′ s ≡ halfAt m s) → Shaped n k m′
@@ -187,11 +257,6 @@ shaped-kept h e =
       later = λ s f a b. let z = e s f in let y = h .later s f a (omega arith) in omega arith;
       empty = λ s f a b. e s f ∙ h .empty s f a b;
     }
-
--- where the tree of a name starts
-pub start-slot : (n : ℕ) (key : Bytes) → 0 < n → Slot n (bucketOf n key * 8 + 1)
-unfolding bucketOf
-start-slot n key p = let l = mod-lt (hashFrom (length key % 2 ^ 32) (drop (length key - 12) key)) p in record { inside = omega arith; word = omega arith; place = omega arith }
 
 -- words 0 and 2 of the marks are all that counts
 pub indexed-kept : {k : ℕ} {rules : List ℕ} {text : Bytes} {m m′ : List ℕ} → Indexed k rules text m → length m′ ≡ length m
@@ -212,9 +277,11 @@ indexed-kept {k} {rules} {text} {m} {m′} h l a b =
   where
     n : ℕ
     n = length rules / 4
+
     word : (s : ℕ) → s % 4 < 2 → Dec (s % 8 < 2) → getD m′ (s / 2) 0 ≡ getD m (s / 2) 0
     word s f (yes e) = let z : s / 2 ≡ s / 8 * 4 = omega arith in rw z (a (s / 8))
     word s f (no e) = let z : s / 2 ≡ s / 8 * 4 + 2 = omega arith in rw z (b (s / 8))
+
     same : (s : ℕ) → s % 4 < 2 → halfAt m′ s ≡ halfAt m s
     same s f = half-of m m′ s (word s f (decLt (s % 8) 2))
 
@@ -277,15 +344,24 @@ module _ {rules : List ℕ} {text : Bytes} {m : List ℕ} {i s : ℕ} (h : Index
         rule : (t : ℕ) → Slot n t → Dec (t ≡ s) → halfAt more t < n → halfAt more t < suc i
         rule t f (yes q) b = let y = ap (halfAt more) q in omega (arith, more-here)
         rule t f (no q) b = let y = more-other t q in let x = h .shaped .rule t f (omega arith) in omega arith
+
         most : (t : ℕ) → Slot n t → Dec (t ≡ s) → halfAt more t ≤ n + (suc i - 1)
         most t f (yes q) = let y = ap (halfAt more) q in omega (arith, more-here)
         most t f (no q) = let y = more-other t q in omega (arith, h .shaped .most t f)
+
         later : (t : ℕ) → Slot n t → (t % 8 ≡ 1 → ⊥) → Dec (t ≡ s) → n < halfAt more t → n + t / 8 < halfAt more t
         later t f a (yes q) b = let y = ap (halfAt more) q in absurd (omega (arith, more-here))
         later t f a (no q) b = let y = more-other t q in let x = h .shaped .later t f a (omega arith) in omega arith
 
-    pub index-first : Indexed (suc i) rules text more
-    index-first = record { few = h .few; upTo = omega arith; long = omega (arith, h .long, length-half m s i); shaped = more-shaped; leads = λ j b. more-leads j b (ℕ-discrete j i) }
+    all-more : Indexed (suc i) rules text more
+    all-more = record { few = h .few; upTo = omega arith; long = omega (arith, h .long, length-half m s i); shaped = more-shaped; leads = λ j b. more-leads j b (ℕ-discrete j i) }
+
+    pub index-first : {m′ : List ℕ} → m′ ≡ more → Indexed (i + 1) rules text m′
+    index-first q = rw (q, add-one) all-more
+
+  -- rule j is there, and has the same name
+  twice : {j : ℕ} → j ≡ halfAt m s → j < n → name j ≡ name i → Twice rules text
+  twice {j} z b q = record { first = j; second = i; order = (let y = h .shaped .rule s here (omega arith) in omega arith); there = l; same = q }
 
   -- rule j is there: a node takes its place, and tells the two apart at position d
   module _ {j d : ℕ} (z : j ≡ halfAt m s) (b : j < n) (small : d < 65536) (differ : symbolAt (name j) d ≡ symbolAt (name i) d → ⊥) where
@@ -360,7 +436,7 @@ module _ {rules : List ℕ} {text : Bytes} {m : List ℕ} {i s : ℕ} (h : Index
     forked-way : (k : ℕ) {t : ℕ} → Way n i name m (name k) (bucketOf n (name k) * 8 + 1) t → Way n (suc i) name forked (name k) (bucketOf n (name k) * 8 + 1) t
     forked-way k w =
         way-kept n i (suc i) name m forked (name k) (omega arith) (λ t f x. kept-slot t f (λ y. omega arith) (λ q. let y = ap (halfAt m) q in omega arith))
-            (λ k x. other (k * 8) (λ q. omega (arith, here .place)) (λ q. omega arith) (λ q. omega arith) (λ q. omega arith)) (h .upTo) (start k) w
+        (λ k x. other (k * 8) (λ q. omega (arith, here .place)) (λ q. omega arith) (λ q. omega arith) (λ q. omega arith)) (h .upTo) (start k) w
 
     -- a way that came to rule j goes on through node i
     further : (k : ℕ) {t : ℕ} → t ≡ s → Way n i name m (name k) (bucketOf n (name k) * 8 + 1) t → Way n (suc i) name forked (name k) (bucketOf n (name k) * 8 + 1) (onward name forked (name k) i)
@@ -412,21 +488,42 @@ module _ {rules : List ℕ} {text : Bytes} {m : List ℕ} {i s : ℕ} (h : Index
         rule t f (is-s q y) x = absurd (omega arith)
         rule t f (is-old y _) x = y
         rule t f (is-kept y _) x = let w = h .shaped .rule t f (omega arith) in omega arith
+
         most : (t : ℕ) → Slot n t → Holds t → halfAt forked t ≤ n + (suc i - 1)
         most t f (is-s q y) = omega arith
         most t f (is-old y _) = omega arith
         most t f (is-kept y _) = omega (arith, h .shaped .most t f)
+
         later : (t : ℕ) → Slot n t → (t % 8 ≡ 1 → ⊥) → Holds t → n < halfAt forked t → n + t / 8 < halfAt forked t
         later t f a (is-s q y) x = let w : (i * 8 ≤ t → ⊥) = λ v. a (ap (λ (u : ℕ). u % 8) q ∙ known (omega arith)) in omega arith
         later t f a (is-old y _) x = absurd (omega arith)
         later t f a (is-kept y _) x = let w = h .shaped .later t f a (omega arith) in omega arith
+
         empty : (t : ℕ) → Slot n t → (t % 8 ≡ 1 → ⊥) → suc i * 8 ≤ t → Holds t → halfAt forked t ≡ n
         empty t f a x (is-s q y) = absurd (a (ap (λ (u : ℕ). u % 8) q ∙ known (omega arith)))
         empty t f a x (is-old y w) = absurd (omega arith)
         empty t f a x (is-kept y _) = y ∙ h .shaped .empty t f a (omega arith)
 
-    pub index-fork : Indexed (suc i) rules text forked
-    index-fork = record { few = h .few; upTo = omega arith; long = omega (arith, h .long, length-forked); shaped = forked-shaped; leads = λ k x. forked-leads k x (ℕ-discrete k i) }
+    all-forked : Indexed (suc i) rules text forked
+    all-forked = record { few = h .few; upTo = omega arith; long = omega (arith, h .long, length-forked); shaped = forked-shaped; leads = λ k x. forked-leads k x (ℕ-discrete k i) }
+
+    index-fork : {m′ : List ℕ} → m′ ≡ forked → Indexed (i + 1) rules text m′
+    index-fork q = rw (q, add-one) all-forked
+
+  -- what was read of rule j's name and of rule i's, and told of them
+  module _ {j o p o′ p′ : ℕ} (a : Apart) (z : j ≡ halfAt m s) (b : j < n) (ho : o ≡ getD rules (j * 4) 0) (hp : p ≡ getD rules (j * 4 + 1) 0) (ho′ : o′ ≡ getD rules (i * 4) 0) (hp′ : p′ ≡ getD rules (i * 4 + 1) 0)
+      (t : ApartAnswer a (length text) (bytesAt text (o, p)) (bytesAt text (o′, p′))) where
+    told : ApartAnswer a (length text) (name j) (name i)
+    told = rw (ho, hp, ho′, hp′) at t
+
+    pub told-same : a ≡ Nowhere → Twice rules text
+    told-same q = twice z b (rw q at told)
+
+    pub told-below : {d : ℕ} → a ≡ Position d → d < length text
+    told-below q = let x : ApartAnswer (Position _) (length text) (name j) (name i) = rw q at told in x .0
+
+    pub told-apart : {d : ℕ} {m′ : List ℕ} → a ≡ Position d → length text ≤ 65536 → m′ ≡ withHalf (withHalf (withHalf (withHalf m (i * 8) d) (i * 8 + 4) j) (i * 8 + 5) i) s (n + i) → Indexed (i + 1) rules text m′
+    told-apart {d} q f w = let x : ApartAnswer (Position d) (length text) (name j) (name i) = rw q at told in index-fork z b (omega (arith, x .0)) (x .1) w
 
 -- ---- none yet, all
 
@@ -443,11 +540,29 @@ indexed-none rules text m {m′} few long e =
   where
     n : ℕ
     n = length rules / 4
+
     word : (s : ℕ) → Slot n s → Dec (s % 8 < 2) → getD m′ (s / 2) 0 ≡ n * 65536 + n
     word s f (yes a) = let z : s / 2 ≡ s / 8 * 4 = omega (arith, f .word) in rw z (e (s / 8) (omega (arith, f .inside)) .0)
     word s f (no a) = let z : s / 2 ≡ s / 8 * 4 + 2 = omega (arith, f .word) in rw z (e (s / 8) (omega (arith, f .inside)) .1)
+
     none : (s : ℕ) → Slot n s → halfAt m′ s ≡ n
     none s f = half-both m′ s n (omega arith) (word s f (decLt (s % 8) 2))
+
+-- what `clear` leaves
+pub cleared : (rules : List ℕ) (text : Bytes) (m : List ℕ) {m1 m2 : List ℕ} {v : ℕ} → length rules / 4 < 32768 → length rules / 4 * 4 ≤ length m → v ≡ length rules / 4 * 65536 + length rules / 4
+    → m1 ≡ marked (λ _. v) 0 (length rules / 4) m → m2 ≡ marked (λ _. v) 2 (length rules / 4) m1 → Indexed 0 rules text m2
+cleared rules text m {m1} {m2} {v} few long hv h1 h2 =
+    let n : ℕ = length rules / 4 in
+    let l1 : length m1 ≡ length m = ap length h1 ∙ length-marked (λ _. v) 0 n m in
+    let l2 : length m2 ≡ length m1 = ap length h2 ∙ length-marked (λ _. v) 2 n m1 in
+    indexed-none rules text m few (omega arith)
+    (λ i b. (
+      ap (λ (w : List ℕ). getD w (i * 4) 0) h2 ∙ marked-other (λ _. v) 2 n m1 (i * 4) (λ k c q. omega arith) ∙ ap (λ (w : List ℕ). getD w (i * 4) 0) h1 ∙ zero-at i b ∙ hv,
+      ap (λ (w : List ℕ). getD w (i * 4 + 2) 0) h2 ∙ marked-at (λ _. v) 2 n m1 i (omega arith) (omega arith) b ∙ hv,
+    ))
+  where
+    zero-at : (i : ℕ) → i < length rules / 4 → getD (marked (λ _. v) 0 (length rules / 4) m) (i * 4) 0 ≡ v
+    zero-at i b = let e : i * 4 ≡ i * 4 + 0 = omega arith in rw e (marked-at (λ _. v) 0 (length rules / 4) m i (omega arith) long b)
 
 pub indexed-all : {rules : List ℕ} {text : Bytes} {m : List ℕ} → NamesInside rules (length text) → Indexed (length rules / 4) rules text m → Hashed rules text m
 indexed-all k h = record { inside = k; long = h .long; indexed = h }

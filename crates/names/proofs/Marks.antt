@@ -13,8 +13,8 @@ use lib.Seq.{drop-cons, ext-getD, getD-take, getD-drop, take-all, getD-set-same,
 use Rattle.grammar.specs.Basic.{Bytes, sameBytes}
 use Rattle.grammar.specs.Text.{bytesAt}
 use Rattle.grammar.proofs.Logic.{or-left, eq-sameBytes, sameBytes-eq}
-use Rattle.rows.specs.Rows.{Tells}
-use Rattle.rows.proofs.Laws.{length-part}
+use Rattle.rows.specs.Rows.{Tells, Unlike}
+use Rattle.rows.proofs.Laws.{length-part, same-parts}
 use Rattle.names.specs.Names.{rowsBefore, hashFrom, bucketOf, symbolAt, marked, withEnds, Ended}
 
 -- ---- the hash
@@ -39,11 +39,11 @@ hash-end t x n i h l = let e : n - i ≡ 0 = omega arith in rw e
 part-drop : (t : Bytes) (x n k : ℕ) → x + n ≤ length t → k ≤ n → bytesAt t (x + k, n - k) ≡ drop k (bytesAt t (x, n))
 part-drop t x n k h l =
     ext-getD 0 _ _ (simp (length-take, length-drop) (omega arith))
-        (λ i j.
-          let b : i < n - k = omega (arith, simp (length-take, length-drop) at j) in
-          let c : k + i < n = omega arith in
-          let e : x + k + i ≡ x + (k + i) = omega arith in
-          rw (getD-take, getD-drop, getD-drop, getD-take, getD-drop, e))
+    (λ i j.
+    let b : i < n - k = omega (arith, simp (length-take, length-drop) at j) in
+    let c : k + i < n = omega arith in
+    let e : x + k + i ≡ x + (k + i) = omega arith in
+    rw (getD-take, getD-drop, getD-drop, getD-take, getD-drop, e))
 
 -- the bucket of a part, by its last bytes
 pub bucket-is : (t : Bytes) (x n count from h : ℕ) → x + n ≤ length t → from ≡ n - 12 → h ≡ hashFrom (n % 2 ^ 32) (bytesAt t (x + from, n - from)) → h % count ≡ bucketOf count (bytesAt t (x, n))
@@ -61,6 +61,21 @@ symbol-in t x n d l h = rw (lt-ltb d (length (bytesAt t (x, n))) (omega (arith, 
 pub symbol-out : (t : Bytes) (x n d : ℕ) → x + n ≤ length t → n ≤ d → 0 ≡ symbolAt (bytesAt t (x, n)) d
 unfolding symbolAt
 symbol-out t x n d l h = rw (le-ltb d (length (bytesAt t (x, n))) (omega (arith, length-part t x n l)))
+
+-- names of two lengths differ where the shorter ends
+pub shorter-apart : (t : Bytes) (x n y m : ℕ) → x + n ≤ length t → y + m ≤ length t → n < m → symbolAt (bytesAt t (x, n)) n ≡ symbolAt (bytesAt t (y, m)) n → ⊥
+shorter-apart t x n y m h k l e = let a = symbol-out t x n n h (omega arith) in let b = symbol-in t y m n k l in omega arith
+
+pub longer-apart : (t : Bytes) (x n y m : ℕ) → x + n ≤ length t → y + m ≤ length t → m < n → symbolAt (bytesAt t (x, n)) m ≡ symbolAt (bytesAt t (y, m)) m → ⊥
+longer-apart t x n y m h k l e = shorter-apart t y m x n k h l (sym e)
+
+-- names of one length, by the first byte in which they differ
+module _ (t : Bytes) (x n y m d : ℕ) (h : x + n ≤ length t) (k : y + m ≤ length t) (e : n ≡ m) (u : Unlike t x t y n d) where
+  pub bytes-apart : d < n → symbolAt (bytesAt t (x, n)) d ≡ symbolAt (bytesAt t (y, m)) d → ⊥
+  bytes-apart l q = let a = symbol-in t x n d h l in let b = symbol-in t y m d k (omega arith) in u .unlike l (omega arith)
+
+  pub bytes-same : n ≤ d → bytesAt t (x, n) ≡ bytesAt t (y, m)
+  bytes-same l = rw (← e) (same-parts t t x y n h (omega arith) (λ i b. u .same i (omega arith)))
 
 -- ---- marks after they are written
 

@@ -119,13 +119,14 @@ pub record Twice (rules : List ℕ) (text : Bytes) : Type 0 where
   pub there : second < length rules / 4
   pub same : nameOf rules text first ≡ nameOf rules text second
 
-abbrev pub IndexAnswer : Bool → ℕ → List ℕ → Bytes → List ℕ → Type 0
-IndexAnswer true k rules text marks = Indexed k rules text marks
-IndexAnswer false k rules text marks = Twice rules text
+-- whether the first k rules are found by their names, or two have one
+pub record IndexAnswer (b : Bool) (k : ℕ) (rules : List ℕ) (text : Bytes) (marks : List ℕ) : Type 0 where
+  pub yes : b ≡ true → Indexed k rules text marks
+  pub no : b ≡ false → Twice rules text
 
-abbrev pub NamesAnswer : Bool → List ℕ → Bytes → List ℕ → Type 0
-NamesAnswer true rules text marks = Hashed rules text marks
-NamesAnswer false rules text marks = Twice rules text
+pub record NamesAnswer (b : Bool) (rules : List ℕ) (text : Bytes) (marks : List ℕ) : Type 0 where
+  pub yes : b ≡ true → Hashed rules text marks
+  pub no : b ≡ false → Twice rules text
 
 -- two names in a text of n bytes differ at a position, or are the same
 abbrev pub ApartAnswer : Apart → ℕ → Bytes → Bytes → Type 0

@@ -96,11 +96,7 @@ fn half(marks: &[u32], h: usize) -> usize
     ensures { λ r. ⌜ (r ≡ halfAt (now (marks .entry)) h) × (r < 65536) ⌝ }
 {
     let w = marks[h / 2];
-    if h % 2 == 0 {
-        lower(w)
-    } else {
-        upper(w)
-    }
+    if h % 2 == 0 { lower(w) } else { upper(w) }
 }
 
 // The word w with v for the half that h is.
@@ -206,14 +202,7 @@ fn fork(marks: &mut [u32], count: usize, slot: usize, i: usize, j: usize, d: usi
 }
 
 // Puts rule i's name, of n bytes at x, beside rule j's, which was found in `slot`: false where they are the same.
-fn beside(
-    rules: &[u32],
-    text: &[u8],
-    marks: &mut [u32],
-    slot: usize,
-    i: usize,
-    j: usize,
-) -> bool
+fn beside(rules: &[u32], text: &[u8], marks: &mut [u32], slot: usize, i: usize, j: usize) -> bool
     requires { ⌜ NamesInside (now rules) (length (now text)) ⌝ }
     requires { ⌜ (i < length (now rules) / 4) × (length (now text) ≤ 65536) ⌝ }
     requires { ⌜ Indexed i (now rules) (now text) (now marks) ⌝ }
@@ -223,7 +212,13 @@ fn beside(
 {
     let at = i * 4;
     let to = j * 4;
-    match tell_apart(text, wide(rules[to]), wide(rules[to + 1]), wide(rules[at]), wide(rules[at + 1])) {
+    match tell_apart(
+        text,
+        wide(rules[to]),
+        wide(rules[to + 1]),
+        wide(rules[at]),
+        wide(rules[at + 1]),
+    ) {
         Apart::Nowhere => false,
         Apart::Position(d) => {
             fork(marks, rules.len() / 4, slot, i, j, d);
@@ -240,7 +235,14 @@ fn index_name(rules: &[u32], text: &[u8], marks: &mut [u32], i: usize) -> bool
     ensures { λ b. ⌜ IndexAnswer b (i + 1) (now (rules .entry)) (now (text .entry)) (now (marks .exit)) ⌝ }
 {
     let at = i * 4;
-    let slot = slot_of(rules, text, marks, text, wide(rules[at]), wide(rules[at + 1]));
+    let slot = slot_of(
+        rules,
+        text,
+        marks,
+        text,
+        wide(rules[at]),
+        wide(rules[at + 1]),
+    );
     let j = half(marks, slot);
     if j < rules.len() / 4 {
         return beside(rules, text, marks, slot, i, j);

@@ -1,3 +1,4 @@
+use native.Mathlib.Nat.{mod-lt}
 use borrow.Author.Needs.{needs}
 use native.Mathlib.Omega.{arith}
 use Rattle.names.proofs.Marks.{bucket-is}
@@ -21,7 +22,7 @@ rem-result : tie.Need-rem-result
 rem-result c = search needs
 
 returns : tie.Need-returns
-returns c = ?
+returns c = let s = c .before .before .before in let a = s .args in (bucket-is (a .text .now) (a .x) (a .n) (a .count) _ _ (s .pre .0) (c .before .last-from .ensures) (c .hash-bytes .ensures), mod-lt _ (s .pre .1))
 
 pub bucket-of-spec : {M : Type 1} → statement M
 bucket-of-spec =

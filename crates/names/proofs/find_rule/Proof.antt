@@ -1,39 +1,35 @@
+use mathlib.Core.Path.{_≡_, refl, sym, ap, ap₂, subst, _∙_}
+use Prim.Native.Nat.{ℕ, suc, _+_, _-_, _*_, _/_, _≤_, _<_}
+use borrow.Author.Needs.{needs}
+use native.Mathlib.Omega.{arith}
+use lib.ListN.{length, getD}
+use Rattle.grammar.specs.Text.{bytesAt}
+use Rattle.rows.proofs.Cells.{tells-yes, tells-no}
+use Rattle.names.proofs.Chains.{ends-inside, found, nothing}
 use borrow.Author.Needs.{needs}
 use Rattle.names.proofs.find_rule.Statement.{statement}
 use Rattle.names.proofs.find_rule.Tie as tie
-use Rattle.names.proofs.find_rule.Reads as reads
-use Rattle.names.proofs.find_rule.Lts as lts
-use Rattle.names.proofs.half.Reads as half-reads
-use Rattle.names.proofs.has_name.Reads as has-name-reads
-use Rattle.names.proofs.slot_of.Reads as slot-of-reads
 
--- src/lib.rt:341:9
 returns : tie.Need-returns
-returns c = search needs
+returns c = λ j l. absurd (omega (arith, c .if1 .taken))
 
--- src/lib.rt:343:25
 slot-of-requires : tie.Need-slot-of-requires
-slot-of-requires c κs = ?
+slot-of-requires c κs = let s = c .before .before .before .before .before in (s .pre .0 .inside, (record { upTo = _; indexed = s .pre .0 .indexed }, (omega (arith, c .if1 .left), s .pre .1)))
 
--- src/lib.rt:343:9
 half-requires : tie.Need-half-requires
-half-requires c κs = search needs
+half-requires c κs = let s = c .before .before .before .before .before .before in ends-inside (omega (arith, c .before .if1 .left)) (s .pre .0 .indexed) (c .slot-of .ensures (length (s .args .rules .now) / 4) (s .pre .0 .indexed))
 
--- src/lib.rt:345:9
 returns-2 : tie.Need-returns-2
-returns-2 c = ?
+returns-2 c = let s = c .before .before .before .before .before .before .before .before in nothing (s .pre .0) _ (c .before .before .slot-of .ensures (length (s .args .rules .now) / 4) (s .pre .0 .indexed)) (c .before .half .ensures .0) (λ l _. omega (arith, c .if2 .taken))
 
--- src/lib.rt:347:8
 has-name-requires : tie.Need-has-name-requires
-has-name-requires c κs = ?
+has-name-requires c κs = let s = c .before .before .before .before .before .before .before .before in (s .pre .0 .inside, (omega (arith, c .if2 .left, c .before .half .ensures .0, c .before .before .slot-of .ensures (length (s .args .rules .now) / 4) (s .pre .0 .indexed) .last), s .pre .1))
 
--- src/lib.rt:327:1
 returns-3 : tie.Need-returns-3
-returns-3 c = ?
+returns-3 c = let s = c .before .before .before .before .before .before .before .before .before .before in found (s .pre .0) _ (c .before .before .before .before .slot-of .ensures (length (s .args .rules .now) / 4) (s .pre .0 .indexed)) (c .before .before .before .half .ensures .0) (omega (arith, c .before .before .if2 .left, c .before .before .before .half .ensures .0, c .before .before .before .before .slot-of .ensures (length (s .args .rules .now) / 4) (s .pre .0 .indexed) .last)) (tells-yes (c .if3 .taken) (c .before .has-name .ensures))
 
--- src/lib.rt:327:1
 returns-4 : tie.Need-returns-4
-returns-4 c = ?
+returns-4 c = let s = c .before .before .before .before .before .before .before .before .before .before in nothing (s .pre .0) _ (c .before .before .before .before .slot-of .ensures (length (s .args .rules .now) / 4) (s .pre .0 .indexed)) (c .before .before .before .half .ensures .0) (λ _. tells-no (c .if3 .left) (c .before .has-name .ensures))
 
 pub find-rule-spec : {M : Type 1} → statement M
 find-rule-spec =

@@ -1,3 +1,4 @@
+use Rattle.names.proofs.Chains.{goes-same, goes-other}
 use borrow.Author.Needs.{needs}
 use native.Mathlib.Omega.{arith}
 use borrow.Author.Needs.{needs}
@@ -35,7 +36,7 @@ wide-requires-2 : tie.Need-wide-requires-2
 wide-requires-2 c κs = search needs
 
 symbol-requires : tie.Need-symbol-requires
-symbol-requires c κs = ?
+symbol-requires c κs = let s = c .before .before .before .before .before .before .before .before .before in omega (arith, s .pre .0 (s .args .k) (s .pre .1 .0 .0), c .before .before .wide .ensures, c .wide2 .ensures)
 
 symbol-requires-2 : tie.Need-symbol-requires-2
 symbol-requires-2 c κs = search needs
@@ -53,10 +54,10 @@ add-result-2 : tie.Need-add-result-2
 add-result-2 c = search needs
 
 returns : tie.Need-returns
-returns c = ?
+returns c = let h = c .before .before .before .before .before .before .before in let a = h .before .before .before .before .before .args in goes-same (a .rules .now) (a .text .now) (a .marks .now) _ (a .k) (h .half .ensures .0) (c .before .before .before .before .before .wide .ensures) (c .before .before .before .wide2 .ensures) (c .before .before .symbol .ensures) (c .before .symbol2 .ensures) (c .if1 .taken)
 
 returns-2 : tie.Need-returns-2
-returns-2 c = ?
+returns-2 c = let h = c .before .before .before .before .before .before .before in let a = h .before .before .before .before .before .args in goes-other (a .rules .now) (a .text .now) (a .marks .now) _ (a .k) (h .half .ensures .0) (c .before .before .before .before .before .wide .ensures) (c .before .before .before .wide2 .ensures) (c .before .before .symbol .ensures) (c .before .symbol2 .ensures) (c .if1 .left)
 
 pub go-on-spec : {M : Type 1} → statement M
 go-on-spec =

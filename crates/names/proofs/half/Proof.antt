@@ -18,10 +18,10 @@ upper-requires : tie.Need-upper-requires
 upper-requires c κs = search needs
 
 returns : tie.Need-returns
-returns c = ?
+returns c = let a = c .before .before .before .before .args in (half-low (a .marks .now) (a .h) _ (c .before .if1 .taken) (c .lower .ensures .0), c .lower .ensures .1)
 
 returns-2 : tie.Need-returns-2
-returns-2 c = ?
+returns-2 c = let a = c .before .before .before .before .args in (half-high (a .marks .now) (a .h) _ (c .before .if1 .left) (c .upper .ensures .0), c .upper .ensures .1)
 
 pub half-spec : {M : Type 1} → statement M
 half-spec =

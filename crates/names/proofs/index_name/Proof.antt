@@ -1,77 +1,61 @@
+use mathlib.Core.Path.{_≡_, refl, sym, ap, ap₂, subst, _∙_}
+use Prim.Native.Nat.{ℕ, suc, _+_, _-_, _*_, _/_, _≤_, _<_}
+use borrow.Author.Needs.{needs}
+use native.Mathlib.Omega.{arith}
+use lib.ListN.{length, getD}
+use mathlib.Core.Bool.{true≢false}
+use Rattle.names.proofs.Chains.{ends-inside, ends-named, index-first}
 use borrow.Author.Needs.{needs}
 use Rattle.names.proofs.index_name.Statement.{statement}
 use Rattle.names.proofs.index_name.Tie as tie
-use Rattle.names.proofs.index_name.Reads as reads
-use Rattle.names.proofs.index_name.Lts as lts
-use Rattle.names.proofs.beside.Reads as beside-reads
-use Rattle.names.proofs.half.Reads as half-reads
-use Rattle.names.proofs.set_half.Reads as set-half-reads
-use Rattle.names.proofs.slot_of.Reads as slot-of-reads
-use Rattle.rows.proofs.wide.Reads as wide-reads
 
--- src/lib.rt:243:14
 mul-at : tie.Need-mul-at
 mul-at c = search needs
 
--- src/lib.rt:244:55
 mul-wide : tie.Need-mul-wide
 mul-wide c = search needs
 
--- src/lib.rt:244:55
 shared-slice-read-wide : tie.Need-shared-slice-read-wide
 shared-slice-read-wide c = search needs
 
--- src/lib.rt:244:50
 wide-requires : tie.Need-wide-requires
 wide-requires c κs = search needs
 
--- src/lib.rt:244:78
 add-wide : tie.Need-add-wide
 add-wide c = search needs
 
--- src/lib.rt:244:72
 mul-wide-2 : tie.Need-mul-wide-2
 mul-wide-2 c = search needs
 
--- src/lib.rt:244:72
 shared-slice-read-wide-2 : tie.Need-shared-slice-read-wide-2
 shared-slice-read-wide-2 c = search needs
 
--- src/lib.rt:244:67
 wide-requires-2 : tie.Need-wide-requires-2
 wide-requires-2 c κs = search needs
 
--- src/lib.rt:244:9
 slot-of-requires : tie.Need-slot-of-requires
-slot-of-requires c κs = ?
+slot-of-requires c κs = let s = c .before .before .before .before .before .before .before .before in (s .pre .0, (record { upTo = s .args .i; indexed = s .pre .1 .1 }, (omega (arith, s .pre .1 .0 .0), omega (arith, s .pre .0 (s .args .i) (s .pre .1 .0 .0), c .before .before .wide .ensures, c .wide2 .ensures))))
 
--- src/lib.rt:245:9
 half-requires : tie.Need-half-requires
-half-requires c κs = search needs
+half-requires c κs = let s = c .before .before .before .before .before .before .before .before .before .before in ends-inside (omega (arith, s .pre .1 .0 .0)) (s .pre .1 .1) (c .before .slot-of .ensures (s .args .i) (s .pre .1 .1))
 
--- src/lib.rt:247:9
 beside-requires : tie.Need-beside-requires
-beside-requires c κs = ?
+beside-requires c κs = let t = c .before .before .before .before in let s = t .before .before .before .before .before .before .before .before .before in (s .pre .0, (s .pre .1 .0, (s .pre .1 .1, (ends-named (s .args .rules .now) (s .args .text .now) (s .args .marks .now) (s .args .i) (s .args .i) _ (t .before .before .before .wide .ensures) (t .before .wide2 .ensures) (t .slot-of .ensures (s .args .i) (s .pre .1 .1)), (c .before .before .half .ensures .0, c .before .if1 .taken)))))
 
--- src/lib.rt:247:9
 same-length : tie.Need-same-length
 same-length c = search needs
 
--- src/lib.rt:247:9
 returns : tie.Need-returns
-returns c = search needs
+returns c = c .before .before .beside .ensures
 
--- src/lib.rt:249:5
 set-half-requires : tie.Need-set-half-requires
-set-half-requires c κs = search needs
+set-half-requires c κs = let t = c .before .before .before .before in let s = t .before .before .before .before .before .before .before .before .before in (ends-inside (omega (arith, s .pre .1 .0 .0)) (s .pre .1 .1) (t .slot-of .ensures (s .args .i) (s .pre .1 .1)), omega (arith, s .pre .1 .0 .0, s .pre .1 .1 .few))
 
--- src/lib.rt:237:1
 same-length-2 : tie.Need-same-length-2
 same-length-2 c = search needs
 
--- src/lib.rt:237:1
 returns-2 : tie.Need-returns-2
-returns-2 c = ?
+returns-2 c = let t = c .before .before .before .before .before .before .before in let s = t .before .before .before .before .before .before .before .before .before in record { yes = λ _. index-first (s .pre .1 .1) (s .pre .1 .0 .0) (ends-named (s .args .rules .now) (s .args .text .now) (s .args .marks .now) (s .args .i) (s .args .i) _ (t .before .before .before .wide .ensures) (t .before .wide2 .ensures) (t .slot-of .ensures (s .args .i) (s .pre .1 .1))) (omega (arith, c .before .before .before .before .before .half .ensures .0, c .before .before .before .before .if1 .left, t .slot-of .ensures (s .args .i) (s .pre .1 .1) .last)) (c .before .before .set-half .ensures); no = λ e. absurd (true≢false e) }
 
 pub index-name-spec : {M : Type 1} → statement M
 index-name-spec =

@@ -24,7 +24,7 @@ same-length : tie.Need-same-length
 same-length c = search needs
 
 returns : tie.Need-returns
-returns c = ?
+returns c = let a = c .before .before .before .args in set-is (a .marks .now) (a .h) (a .v) _ (c .with-half .ensures)
 
 pub set-half-spec : {M : Type 1} → statement M
 set-half-spec =

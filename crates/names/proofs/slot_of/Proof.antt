@@ -1,60 +1,52 @@
+use mathlib.Core.Path.{_≡_, refl, sym, ap, ap₂, subst, _∙_}
+use Prim.Native.Nat.{ℕ, suc, _+_, _-_, _*_, _/_, _≤_, _<_}
+use borrow.Author.Needs.{needs}
+use native.Mathlib.Omega.{arith}
+use lib.ListN.{length, getD}
+use Rattle.grammar.specs.Text.{bytesAt}
+use Rattle.names.specs.Names.{nameOf, bucketOf, halfAt, Way, Indexed}
+use Rattle.names.proofs.Chains.{stepsLeft, way-start, node-there, next-slot, next-way, next-less}
 use Rattle.names.proofs.slot_of.Statement.{statement}
 use Rattle.names.proofs.slot_of.Tie as tie
-use Rattle.names.proofs.slot_of.Reads as reads
-use Rattle.names.proofs.slot_of.Lts as lts
-use Rattle.names.proofs.bucket_of.Reads as bucket-of-reads
-use Rattle.names.proofs.go_on.Reads as go-on-reads
-use Rattle.names.proofs.half.Reads as half-reads
 
 abbrev Inv-loop : tie.InvT-loop
-Inv-loop rules text marks text2 x n count slot₀ r₀ slot r = ?
+Inv-loop rules text marks text2 x n count slot₀ r₀ slot r = (r ≡ halfAt marks slot) × ((k : ℕ) → Indexed k rules text marks → Way (length rules / 4) k (nameOf rules text) marks (bytesAt text2 (x, n)) (bucketOf (length rules / 4) (bytesAt text2 (x, n)) * 8 + 1) slot)
 
 abbrev μ-loop : tie.MeasureT-loop
-μ-loop rules text marks text2 x n count slot₀ r₀ slot r = ?
+μ-loop rules text marks text2 x n count slot₀ r₀ slot r = stepsLeft (length rules / 4) r
 
--- src/lib.rt:169:20
 bucket-of-requires : tie.Need-bucket-of-requires Inv-loop μ-loop
-bucket-of-requires c κs = ?
+bucket-of-requires c κs = let s = c .before .before .before .before in (s .pre .1 .1 .1, s .pre .1 .1 .0)
 
--- src/lib.rt:169:20
 mul-slot : tie.Need-mul-slot Inv-loop μ-loop
-mul-slot c = ?
+mul-slot c = omega arith
 
--- src/lib.rt:169:20
 add-slot : tie.Need-add-slot Inv-loop μ-loop
-add-slot c = ?
+add-slot c = omega arith
 
--- src/lib.rt:170:9
 half-requires : tie.Need-half-requires Inv-loop μ-loop
-half-requires c κs = ?
+half-requires c κs = let s = c .before .before .before .before .before in omega (arith, c .bucket-of .ensures .1, s .pre .1 .0 .indexed .long)
 
--- src/lib.rt:171:5
 loop-holds : tie.Need-loop-holds Inv-loop μ-loop
-loop-holds c = ?
+loop-holds c = (c .half .ensures .0, λ k h. way-start (c .before .bucket-of .ensures .0))
 
--- src/lib.rt:172:42
 sub-go-on : tie.Need-sub-go-on Inv-loop μ-loop
-sub-go-on c = ?
+sub-go-on c = omega arith
 
--- src/lib.rt:172:9
 go-on-requires : tie.Need-go-on-requires Inv-loop μ-loop
-go-on-requires c κs = ?
+go-on-requires c κs = let s = c .before .before .before .before .before .before .before .before in let l = c .before .loop in (s .pre .0, ((node-there (s .pre .1 .1 .0) (l .inv .1) (l .inv .0) (c .loop-test .taken) (s .pre .1 .0), s .pre .1 .0 .indexed .long), s .pre .1 .1 .1))
 
--- src/lib.rt:173:9
 half-requires-2 : tie.Need-half-requires-2 Inv-loop μ-loop
-half-requires-2 c κs = ?
+half-requires-2 c κs = let s = c .before .before .before .before .before .before .before .before .before in let l = c .before .before .loop in next-slot (s .pre .1 .1 .0) (l .inv .1) (l .inv .0) (c .before .loop-test .taken) (c .go-on .ensures) (s .pre .1 .0)
 
--- src/lib.rt:171:5
 loop-less : tie.Need-loop-less Inv-loop μ-loop
-loop-less c = ?
+loop-less c = let s = c .before .before .before .before .before .before .before .before .before .before in let l = c .before .before .before .loop in next-less (s .pre .1 .1 .0) (l .inv .1) (l .inv .0) (c .before .before .loop-test .taken) (c .before .go-on .ensures) (s .pre .1 .0) (c .half2 .ensures .0)
 
--- src/lib.rt:171:5
 loop-again : tie.Need-loop-again Inv-loop μ-loop
-loop-again c = ?
+loop-again c = let s = c .before .before .before .before .before .before .before .before .before .before in let l = c .before .before .before .loop in (c .half2 .ensures .0, next-way (s .pre .1 .1 .0) (l .inv .1) (l .inv .0) (c .before .before .loop-test .taken) (c .before .go-on .ensures))
 
--- src/lib.rt:160:1
 returns : tie.Need-returns Inv-loop μ-loop
-returns c = ?
+returns c = λ k h. record { way = c .before .loop .inv .1 k h; last = omega (arith, c .before .loop .inv .0, c .loop-test .left) }
 
 pub slot-of-spec : {M : Type 1} → statement M
 slot-of-spec =

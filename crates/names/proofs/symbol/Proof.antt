@@ -18,10 +18,10 @@ add-result : tie.Need-add-result
 add-result c = search needs
 
 returns : tie.Need-returns
-returns c = ?
+returns c = let a = c .before .before .before .before .args in let q = symbol-in (a .text .now) (a .x) (a .n) (a .d) (omega arith) (omega arith) in omega (arith, c .byte .ensures)
 
 returns-2 : tie.Need-returns-2
-returns-2 c = ?
+returns-2 c = let a = c .before .before .args in symbol-out (a .text .now) (a .x) (a .n) (a .d) (omega arith) (omega (arith, c .if1 .left))
 
 pub symbol-spec : {M : Type 1} → statement M
 symbol-spec =

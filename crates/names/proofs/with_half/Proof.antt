@@ -18,10 +18,10 @@ halves-requires-2 : tie.Need-halves-requires-2
 halves-requires-2 c κs = search needs
 
 returns : tie.Need-returns
-returns c = ?
+returns c = let a = c .before .before .before .args in word-low (a .w) (a .h) (a .v) _ (c .before .before .if1 .taken) (omega (arith, c .halves .ensures, c .before .upper .ensures))
 
 returns-2 : tie.Need-returns-2
-returns-2 c = ?
+returns-2 c = let a = c .before .before .before .args in word-high (a .w) (a .h) (a .v) _ (c .before .before .if1 .left) (omega (arith, c .halves2 .ensures, c .before .lower .ensures))
 
 pub with-half-spec : {M : Type 1} → statement M
 with-half-spec =
