@@ -295,6 +295,36 @@ hashed-ends rules text m h =
     let n : ℕ = length rules / 4 in
     hashed-kept h (length-marked f 3 n m) (λ i. marked-other f 3 n m (i * 4) (λ k l e. omega arith)) (λ i. marked-other f 3 n m (i * 4 + 2) (λ k l e. omega arith))
 
+-- an index is one of names, wherever they stand
+module _ {n : ℕ} {name name′ : ℕ → Bytes} (e : (j : ℕ) → j < n → name′ j ≡ name j) where
+  onward-named : (m : List ℕ) (key : Bytes) (j : ℕ) → j < n → onward name′ m key j ≡ onward name m key j
+  unfolding onward
+  onward-named m key j l = rw (e j l)
+
+  way-named : {k : ℕ} {m : List ℕ} {key : Bytes} {s t : ℕ} → k ≤ n → Way n k name m key s t → Way n k name′ m key s t
+  way-named b stay = stay
+  way-named {k} {m} {key} {t = t} b (step j h c d w) =
+      let v : Way n k name′ m key (onward name m key j) t = way-named b w in
+      step j h c d (rw (← onward-named m key j (omega arith)) at v)
+
+pub hashed-named : {rules rules′ : List ℕ} {text text′ : Bytes} {m : List ℕ} → length rules′ / 4 ≡ length rules / 4 → ((i : ℕ) → i < length rules / 4 → nameOf rules′ text′ i ≡ nameOf rules text i)
+    → NamesInside rules′ (length text′) → Hashed rules text m → Hashed rules′ text′ m
+hashed-named {rules} {rules′} {text} {text′} {m} l e f h =
+    record {
+      inside = f;
+      long = omega (arith, h .long);
+      indexed =
+          record {
+            few = omega (arith, h .indexed .few);
+            upTo = omega arith;
+            long = omega (arith, h .long);
+            shaped = rw l (h .indexed .shaped);
+            leads = rw l (λ i b.
+                let g = h .indexed .leads i b in
+                record { slot = g .slot; way = rw (e i b) (way-named e (omega arith) (g .way)); is = g .is });
+          };
+    }
+
 -- ---- one rule more
 
 module _ {rules : List ℕ} {text : Bytes} {m : List ℕ} {i s : ℕ} (h : Indexed i rules text m) (l : i < length rules / 4)
