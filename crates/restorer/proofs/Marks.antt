@@ -1,5 +1,5 @@
 -- Marks in words: memories are written, with the stack of rules that are not settled, and what is lent stays lent. Assumes nothing.
-use mathlib.Core.Path.{_≡_, refl, sym, ap, _∙_}
+use mathlib.Core.Path.{_≡_, refl, sym, ap, _∙_, subst}
 use mathlib.Core.Bool.{Bool, true, false, cond}
 use mathlib.Core.List.{List, [], _∷_}
 use Prim.Native.Nat.{ℕ, zero, suc, _+_, _-_, _*_, _/_, _≤_, _<_}
@@ -19,7 +19,7 @@ use Rattle.names.specs.Names.{Ended}
 use Rattle.names.proofs.Chains.{hashed-kept}
 use Rattle.names.proofs.Finding.{There, there, rule-count, rule-words, body-at}
 use Rattle.restorer.specs.Search.{stateOf}
-use Rattle.restorer.specs.Lends.{Lent, Given, unseen, Steady, Stacked, Closes, TreeRows}
+use Rattle.restorer.specs.Lends.{Lent, Given, unseen, Steady, Stacked, Ran, Closes, TreeRows}
 use Rattle.restorer.proofs.Memories.{length-resolved}
 
 -- ---- one memory is written
@@ -157,6 +157,19 @@ closes-next {n} {m} {m₁} {m₂} {st} {p} {to} c w lo hi =
         go (yes v) = absurd (r (sym (s .back j p l (c .kept j l (omega arith) ∙ v) .1)))
         go (no v) = c .turned j l (omega arith)
 
+-- the rules from position p to `top` are closed
+pub record Closing (m m′ st : List ℕ) (from top to p : ℕ) : Type 0 where
+  pub low : from ≤ p
+  pub high : p ≤ top
+  pub long : length m′ ≡ length m
+  pub steady : Steady m m′
+  pub closes : (n : ℕ) → Stacked n m st top → Closes n m m′ st p to
+
+pub closing-next : {m m₁ st : List ℕ} {top p to i : ℕ} → 1 ≤ p → i ≡ getD st (p - 1) 0 → i * 4 + 1 < length m₁ → 1 < to → to < 4 → ((n : ℕ) → Stacked n m st top → Closes n m m₁ st p to) → (n : ℕ) → Stacked n m st top → Closes n m (set m₁ (i * 4 + 1) to) st (p - 1) to
+closing-next {m} {m₁} {st} {top} {p} {to} {i} h e l lo hi f n s =
+    let k : p ≡ p - 1 + 1 = omega arith in
+    closes-next (subst (λ (q : ℕ). Closes n m m₁ st q to) k (f n s)) (subst (λ (j : ℕ). Sets m₁ (set m₁ (i * 4 + 1) to) j to) e (sets-state m₁ i to l)) (omega arith) hi
+
 -- ---- nothing but memories is changed
 
 pub steady-none : (m : List ℕ) → Steady m m
@@ -168,6 +181,12 @@ steady-more a b = record { hash = λ i. b .hash i ∙ a .hash i; chain = λ i. b
 pub steady-set : (m : List ℕ) (i v : ℕ) → Steady m (set m (i * 4 + 1) v)
 steady-set m i v =
     record { hash = λ j. getD-set-other m (i * 4 + 1) (j * 4) v 0 (λ e. omega arith); chain = λ j. getD-set-other m (i * 4 + 1) (j * 4 + 2) v 0 (λ e. omega arith); end = λ j. getD-set-other m (i * 4 + 1) (j * 4 + 3) v 0 (λ e. omega arith) }
+
+pub ran-none : {n : ℕ} {m st : List ℕ} {top : ℕ} → Stacked n m st top → Ran n m m st top top
+ran-none {m = m} s = record { steady = steady-none m; fewer = omega arith; grown = omega arith; stacked = s }
+
+pub ran-more : {n : ℕ} {m m₁ m₂ st₁ st₂ : List ℕ} {top high more : ℕ} → Ran n m m₁ st₁ top high → Ran n m₁ m₂ st₂ high more → Ran n m m₂ st₂ top more
+ran-more a b = record { steady = steady-more (a .steady) (b .steady); fewer = omega (arith, a .fewer, b .fewer); grown = omega (arith, a .grown, b .grown); stacked = b .stacked }
 
 pub given-steady : {rules rows : List ℕ} {text : Bytes} {m m′ : List ℕ} → Given rules rows text m → Steady m m′ → length m′ ≡ length m → Given rules rows text m′
 given-steady g s l =

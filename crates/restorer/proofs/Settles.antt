@@ -1,13 +1,15 @@
 -- The look into a rule: while it is open its rules lead to it, and when it is left its group is settled or stays on the stack. Assumes nothing.
 use mathlib.Core.Path.{_≡_, refl, sym, ap, _∙_, subst}
-use mathlib.Core.Bool.{false≢true, Bool, true, false, _&&_, not}
+use mathlib.Core.Bool.{false≢true, Bool, true, false, _&&_, not, cond}
 use mathlib.Core.List.{List}
 use mathlib.Core.Option.{some}
 use mathlib.Core.Logic.{_⊎_, inl, inr}
-use Prim.Native.Nat.{ℕ, zero, suc, _+_, _≤_, _<_}
+use Prim.Native.Nat.{ℕ, zero, suc, _+_, _-_, _≤_, _<_}
 use native.Mathlib.Decide.{ℕ-discrete, decLt}
 use native.Mathlib.Omega.{arith}
 use lib.ListN.{length, getElem?}
+use lib.Dec.{leb}
+use borrow.Author.Tests.{leb-true, leb-false}
 use Rattle.grammar.specs.Basic.{Bytes, member}
 use Rattle.grammar.specs.Tree.{E, Un, un, isUn}
 use Rattle.grammar.specs.Table.{Rule, Table}
@@ -15,9 +17,10 @@ use Rattle.grammar.specs.Stack.{stackNames, Reaches, at-push, at-name, through,
 use Rattle.grammar.proofs.Logic.{none-some, some-eq, or-left}
 use Rattle.restorer.specs.Search.{stateOf, memoryOf, isQuiet, loud, Quiet, Right, RuleReaches, Reach, Kept, Searches, Closed, nowhere, Changing, Passing, Walked, Looked, RuleSettled}
 use Rattle.restorer.specs.Lends.{Closes, Leaves}
+use Rattle.restorer.specs.Walks.{positionOf}
 use Rattle.restorer.specs.declared.Outcome.{Outcome}
 use Rattle.restorer.specs.declared.Outcome.the-variants.{Reached, Silent}
-use Rattle.restorer.proofs.Memories.{or-no-left, or-no-right, quiet-state, state-quiet, not-loud, Unknown, Known, known, inside-rule, stays-quiet, kept-none, searches-none}
+use Rattle.restorer.proofs.Memories.{or-no-left, or-no-right, quiet-state, state-quiet, not-loud, Unknown, Known, known, inside-rule, stays-quiet, kept-none, searches-none, closed-none}
 use Rattle.restorer.proofs.Marks.{Sets}
 
 clash : {P : Type 0} {b : Bool} → b ≡ true → b ≡ false → P
@@ -86,6 +89,30 @@ module _ (t : Table Bytes) {m m′ st : List ℕ} {from to : ℕ} (c : Closes (l
 -- one that is settled or on the stack
 pub look-yes : {t : Table Bytes} {m : List ℕ} (i top : ℕ) → Right t m → stateOf m i ≡ 3 → Looked (Reached top) t top m m i
 look-yes i top h e = (omega arith, record { searches = searches-none h; reaches = λ r is. h .yes i r is e })
+
+position-case : (v : ℕ) → (v ≡ 0 → ⊥) → (v ≡ 1 → ⊥) → (v ≡ 3 → ⊥) → ((v ≡ 2) × (positionOf v ≡ nowhere)) ⊎ (v ≡ 4 + positionOf v)
+position-case v a b c = go (leb 4 v) refl
+  where
+    go : (d : Bool) → leb 4 v ≡ d → ((v ≡ 2) × (cond d (v - 4) nowhere ≡ nowhere)) ⊎ (v ≡ 4 + cond d (v - 4) nowhere)
+    go true e = inr (omega (arith, leb-true 4 v e))
+    go false e = inl (two v a b c (leb-false 4 v e), refl)
+      where
+        two : (n : ℕ) → (n ≡ 0 → ⊥) → (n ≡ 1 → ⊥) → (n ≡ 3 → ⊥) → n < 4 → n ≡ 2
+        two zero a b c l = absurd (a refl)
+        two (suc zero) a b c l = absurd (b refl)
+        two (suc (suc zero)) a b c l = refl
+        two (suc (suc (suc zero))) a b c l = absurd (c refl)
+        two (suc (suc (suc (suc n)))) a b c l = absurd (omega arith)
+
+pub look-no : {t : Table Bytes} {m : List ℕ} (i top : ℕ) → i < length t → Right t m → (stateOf m i ≡ 3 → ⊥) → (stateOf m i ≡ 0 → ⊥) → Looked (Silent (positionOf (stateOf m i)) top) t top m m i
+look-no {t} {m} i top l h n z = go (position-case (stateOf m i) z (h .states i l) n)
+  where
+    low : ℕ
+    low = positionOf (stateOf m i)
+
+    go : ((stateOf m i ≡ 2) × (positionOf (stateOf m i) ≡ nowhere)) ⊎ (stateOf m i ≡ 4 + positionOf (stateOf m i)) → Looked (Silent (positionOf (stateOf m i)) top) t top m m i
+    go (inl p) = (omega (arith, p .0), record { searches = searches-none h; closed = closed-none t low m; quiet = state-quiet low (stateOf m i) (inl (p .0)); leads = λ k. absurd (omega (arith, p .1)) })
+    go (inr e) = (omega (arith, e), record { searches = searches-none h; closed = closed-none t low m; quiet = state-quiet low (stateOf m i) (inr (omega (arith, e))); leads = λ k f. f i e })
 
 -- one that was not seen comes to position `top`, and its rows are walked
 module _ {t : Table Bytes} {m m₁ : List ℕ} {i : ℕ} (top : ℕ) (rule : Rule Bytes) (is : getElem? t i ≡ some rule) (z : stateOf m i ≡ 0) (s : Sets m m₁ i (4 + top)) (h : Right t m) where

@@ -1,0 +1,74 @@
+-- The invariant: the rules from position p on are settled. Assumes nothing.
+use borrow.Author.Needs.{needs}
+use native.Mathlib.Omega.{arith}
+use Rattle.restorer.proofs.Marks.{Closing, closes-none, closing-next, steady-none, steady-more, steady-set}
+use Rattle.restorer.proofs.close.Statement.{statement}
+use Rattle.restorer.proofs.close.Tie as tie
+use Rattle.restorer.proofs.close.Reads as reads
+use Rattle.restorer.proofs.close.Lts as lts
+use Rattle.rows.proofs.wide.Reads as wide-reads
+
+abbrev Inv-loop : tie.InvT-loop
+Inv-loop marks₀ stack from top to p₀ marks p = Closing marks₀ marks stack from top to p
+
+abbrev μ-loop : tie.MeasureT-loop
+μ-loop marks₀ stack from top to p₀ marks p = p
+
+loop-holds : tie.Need-loop-holds Inv-loop μ-loop
+loop-holds c = ?
+
+sub-p : tie.Need-sub-p Inv-loop μ-loop
+sub-p c = search needs
+
+mul-wide : tie.Need-mul-wide Inv-loop μ-loop
+mul-wide c = search needs
+
+shared-slice-read-wide : tie.Need-shared-slice-read-wide Inv-loop μ-loop
+shared-slice-read-wide c = search needs
+
+wide-requires : tie.Need-wide-requires Inv-loop μ-loop
+wide-requires c κs = search needs
+
+mul-marks : tie.Need-mul-marks Inv-loop μ-loop
+mul-marks c = search needs
+
+add-marks : tie.Need-add-marks Inv-loop μ-loop
+add-marks c = search needs
+
+mul-marks-2 : tie.Need-mul-marks-2 Inv-loop μ-loop
+mul-marks-2 c = search needs
+
+slice-write-marks : tie.Need-slice-write-marks Inv-loop μ-loop
+slice-write-marks c = search needs
+
+loop-less : tie.Need-loop-less Inv-loop μ-loop
+loop-less c = search needs
+
+loop-again : tie.Need-loop-again Inv-loop μ-loop
+loop-again c = ?
+
+same-length : tie.Need-same-length Inv-loop μ-loop
+same-length c = ?
+
+returns : tie.Need-returns Inv-loop μ-loop
+returns c = ?
+
+pub close-spec : {M : Type 1} → statement M
+close-spec =
+    tie.close
+    (tie.spec
+    Inv-loop
+    μ-loop
+    loop-holds
+    sub-p
+    mul-wide
+    shared-slice-read-wide
+    wide-requires
+    mul-marks
+    add-marks
+    mul-marks-2
+    slice-write-marks
+    loop-less
+    loop-again
+    same-length
+    returns)
