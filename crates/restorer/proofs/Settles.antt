@@ -16,7 +16,7 @@ use Rattle.grammar.specs.Table.{Rule, Table}
 use Rattle.grammar.specs.Stack.{stackNames, Reaches, at-push, at-name, through, down, left, right, changesIn}
 use Rattle.grammar.proofs.Logic.{none-some, some-eq, or-left}
 use Rattle.restorer.specs.Search.{stateOf, memoryOf, isQuiet, loud, Quiet, Right, RuleReaches, Reach, Kept, Searches, Closed, nowhere, Changing, Passing, Walked, Looked, RuleSettled}
-use Rattle.restorer.specs.Lends.{Closes, Leaves}
+use Rattle.restorer.specs.Lends.{Stacked, topOf, Closes, Leaves}
 use Rattle.restorer.specs.Walks.{positionOf}
 use Rattle.restorer.specs.declared.Outcome.{Outcome}
 use Rattle.restorer.specs.declared.Outcome.the-variants.{Reached, Silent}
@@ -220,10 +220,10 @@ module _ {t : Table Bytes} {m m₁ : List ℕ} {i : ℕ} (top : ℕ) (rule : Rul
           }
 
   -- by the answer of the walk
-  pub looked : (o b : Outcome) {m₂ m₃ : List ℕ} (st : List ℕ) → ((j : ℕ) → j < length t → stateOf m j < 4 + top) → top ≤ nowhere → Leaves o b top m₂ m₃ st → ((low high : ℕ) → o ≡ Silent low high → (top ≤ low) → Closes (length t) m₂ m₃ st top 2) → Walked o t (top + 1) m₁ m₂ (rule .body) → Looked b t top m m₃ i
-  looked (Reached high) b {m₂} {m₃} st lower few (e, q) c a = rw (e, q) (omega (arith, still (a .searches)), looked-yes a)
-  looked (Silent low high) b {m₂} {m₃} st lower few (inl (l, e, q)) c a = rw (e, q) (omega (arith, still (a .searches)), looked-open a l few)
-  looked (Silent low high) b {m₂} {m₃} st lower few (inr (l, e, q)) c a = let d = c low high refl l in rw e (omega (arith, here a lower l d), looked-closed a lower l d)
+  pub looked : (o b : Outcome) (m₂ m₃ st : List ℕ) → ((j : ℕ) → j < length t → stateOf m j < 4 + top) → top ≤ nowhere → Leaves o b top m₂ m₃ st → Stacked (length t) m₂ st (topOf o) → Walked o t (top + 1) m₁ m₂ (rule .body) → Looked b t top m m₃ i
+  looked (Reached high) b m₂ m₃ st lower few (e, q) c a = rw (e, q) (omega (arith, still (a .searches)), looked-yes a)
+  looked (Silent low high) b m₂ m₃ st lower few (inl (l, e, q)) c a = rw (e, q) (omega (arith, still (a .searches)), looked-open a l few)
+  looked (Silent low high) b m₂ m₃ st lower few (inr (l, e, q)) c a = let d = q (length t) c in rw e (omega (arith, here a lower l d), looked-closed a lower l d)
 
 -- ---- the end of a search from an empty stack
 
