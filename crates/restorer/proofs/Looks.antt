@@ -1,7 +1,7 @@
 -- The look into a rule that was not seen, as what is lent says it. Assumes nothing.
 use mathlib.Core.Path.{_≡_, refl, sym, subst}
 use mathlib.Core.List.{List}
-use mathlib.Core.Logic.{inl, inr}
+use mathlib.Core.Logic.{_⊎_, inl, inr}
 use Prim.Native.Nat.{ℕ, _+_, _*_, _/_, _≤_, _<_}
 use native.Mathlib.Omega.{arith}
 use lib.ListN.{length, set, length-set}
@@ -10,12 +10,12 @@ use Rattle.grammar.specs.Rows.{Span}
 use Rattle.grammar.specs.Text.{resolve}
 use Rattle.grammar.specs.Table.{Table, resolveRule, resolveTable}
 use Rattle.names.proofs.Finding.{There}
-use Rattle.restorer.specs.Search.{stateOf, nowhere, Right, Walked, Looked}
+use Rattle.restorer.specs.Search.{stateOf, nowhere, Right, Walked, Looked, RuleSettled}
 use Rattle.restorer.specs.Lends.{Lent, unseen, Steady, Stacked, Searching, Ran, topOf, Left, Within, Closes, Leaves}
 use Rattle.restorer.specs.declared.Outcome.{Outcome}
 use Rattle.restorer.specs.declared.Outcome.the-variants.{Reached, Silent}
 use Rattle.restorer.proofs.Memories.{rule-resolved}
-use Rattle.restorer.proofs.Settles.{open-right, looked}
+use Rattle.restorer.proofs.Settles.{open-right, looked, ends-yes, ends-no}
 use Rattle.restorer.proofs.Marks.{Sets, sets-state, pushed-less, pushed, stack-top, steady-more, steady-set, given-steady, count-resolved, rule-there}
 
 -- where the stack ends
@@ -97,3 +97,36 @@ module _ {rules rows : List ℕ} {text : Bytes} {m st : List ℕ} {top i : ℕ} 
             let s : Sets m m₁ i (4 + top) = rw e puts in
             let n = count-resolved l text in
             looked top rule is z s k o b m₂ m₃ st₂ (λ j d. stack-top (g .stacked) (omega (arith, n))) (omega (arith, look-room, g .few)) leaves (subst (λ (v : ℕ). Stacked v m₂ st₂ (topOf o)) n (ran .stacked)) (w (open-right top rule is z s k))
+
+-- ---- a search from an empty stack
+
+module _ {rules rows : List ℕ} {text : Bytes} {m m₁ st st₁ : List ℕ} {i : ℕ} {o : Outcome} (g : Searching rules rows text m st 0) (h : i < length rules / 4) (ran : Ran (length rules / 4) m m₁ st₁ 0 (topOf o)) (looks : (t : Table Span) → Lent t rules rows → Right (resolveTable text t) m → Looked o (resolveTable text t) 0 m m₁ i) where
+  -- nothing shows
+  module _ {low high : ℕ} (e : o ≡ Silent low high) where
+    pub rule-empty : Left o 0 → Stacked (length rules / 4) m₁ st₁ 0
+    rule-empty l = go (rw e at l)
+      where
+        go : (low < 0) ⊎ (high ≡ 0) → Stacked (length rules / 4) m₁ st₁ 0
+        go (inl k) = absurd (omega arith)
+        go (inr k) = rw k at (subst (λ (a : Outcome). Stacked (length rules / 4) m₁ st₁ (topOf a)) e (ran .stacked))
+
+    pub rule-no : (t : Table Span) → Lent t rules rows → Right (resolveTable text t) m → RuleSettled (resolveTable text t) m m₁ i
+    rule-no t l r = ends-no low high (rw e at (looks t l r))
+
+  -- a change is reached
+  module _ {high : ℕ} (e : o ≡ Reached high) where
+    rule-stack : Stacked (length rules / 4) m₁ st₁ high
+    rule-stack = subst (λ (a : Outcome). Stacked (length rules / 4) m₁ st₁ (topOf a)) e (ran .stacked)
+
+    pub rule-within : length m₁ ≡ length m → length st₁ ≡ length st → Within m₁ st₁ 0 high
+    rule-within a b = stack-within rule-stack (omega arith) (omega (arith, g .long)) (omega (arith, g .given .marked .hashed .long))
+
+    module _ {m₂ : List ℕ} (c : (n : ℕ) → Stacked n m₁ st₁ high → Closes n m₁ m₂ st₁ 0 3) where
+      pub rule-closed : Stacked (length rules / 4) m₂ st₁ 0
+      rule-closed = c (length rules / 4) rule-stack .stacked
+
+      pub rule-yes : (t : Table Span) → Lent t rules rows → Right (resolveTable text t) m → RuleSettled (resolveTable text t) m m₂ i
+      rule-yes t l r =
+          let n = count-resolved l text in
+          let k : Stacked (length (resolveTable text t)) m₁ st₁ high = subst (λ (v : ℕ). Stacked v m₁ st₁ high) n rule-stack in
+          ends-yes (λ j b. let q = stack-top {i = j} (g .stacked) (omega (arith, n)) in omega arith) (omega (arith, n)) high (rw e at (looks t l r)) (c (length (resolveTable text t)) k)

@@ -293,13 +293,7 @@ fn settle_rule(
 }
 
 // Settles every rule of the table: whether the stack can change through it. Each rule is walked once.
-pub fn settle(
-    rules: &[u32],
-    rows: &[u32],
-    text: &[u8],
-    marks: &mut [u32],
-    stack: &mut [u32],
-)
+pub fn settle(rules: &[u32], rows: &[u32], text: &[u8], marks: &mut [u32], stack: &mut [u32])
     requires { ⌜ Marked (now rules) (now rows) (now text) (now marks) ⌝ }
     requires { ⌜ length (now rows) < 2 ^ 32 ⌝ }
     requires { ⌜ length (now rules) / 4 ≤ length (now stack) ⌝ }
