@@ -19,7 +19,7 @@ ghost use Rattle.names.specs.Names.{marked, Hashed};
 ghost use Rattle.restorer.specs.Search.{stateOf, Right, Walked, Looked, RuleSettled};
 ghost use Rattle.restorer.specs.Lends.{Lent, Marked, Given, Steady, Stacked, Searching, Ran, topOf, Left, Within, Closes, Leaves, TreeRows, Settles};
 ghost use Rattle.restorer.specs.Walks.{stepFrom, recalled, GoesOn, Visited, Unseen, Least};
-ghost use Rattle.restorer.specs.Restores.{isGuard, showsThrough, guardedIf, Sure, Known, RowIs, Unset, climbed, RestoredAnswer, Over, NodeAnswer, OverAnswer, Becomes, Climbable};
+ghost use Rattle.restorer.specs.Restores.{isGuard, showsThrough, SettledNo, guardedIf, Sure, Known, RowIs, Unset, climbed, RestoredAnswer, Over, NodeAnswer, OverAnswer, Becomes, Climbable};
 ghost use Rattle.chains.specs.Runs.{ups};
 use names::Found;
 use rows::Lookup;
@@ -708,23 +708,20 @@ fn unset(rows: &[u32], root: usize) -> bool
     true
 }
 
-// Whether the subtree of row `root` is rule i's, which is settled as one through which the stack cannot change, and no RestoreOnErr hides a change in it.
-fn settled_no(rules: &[u32], marks: &[u32], rows: &[u32], i: usize, root: usize) -> bool
+// What is remembered of rule i, where the subtree of row `root` is its tree.
+fn memory(rules: &[u32], marks: &[u32], i: usize, root: usize) -> u32
     requires { ⌜ length (now rules) / 4 * 4 ≤ length (now marks) ⌝ }
-    requires { ⌜ Stands (now rows) root ⌝ }
-    ensures { λ b. ⌜ (b ≡ true → (text : Bytes) (t : Table Span) (r : Expr Span) → Settles (now (rules .entry)) (now (rows .entry)) text (now (marks .entry)) → Lent t (now (rules .entry)) (now (rows .entry)) → At (now (rows .entry)) root r → steps.restore (resolveTable text t) (resolve text r) ≡ resolve text r) ⌝ }
+    requires { ⌜ root + 1 < 2 ^ 64 ⌝ }
+    ensures { λ r. ⌜ (r ≡ 2 → SettledNo (now (rules .entry)) (now (marks .entry)) i root) ⌝ }
 {
     if i >= rules.len() / 4 {
-        return false;
+        return UNSEEN;
     }
     let at = i * 4;
-    if marks[at + 1] != NO {
-        return false;
-    }
     if wide(marks[at + 3]) != root + 1 {
-        return false;
+        return UNSEEN;
     }
-    unset(rows, root)
+    marks[at + 1]
 }
 
 // Whether the marks or the rows show that restoring the subtree of row `root` leaves it as it is.
@@ -735,8 +732,15 @@ fn stays(rules: &[u32], marks: &[u32], rows: &[u32], text: &[u8], i: usize, root
     ensures { λ b. ⌜ (b ≡ true → (t : Table Span) (r : Expr Span) → Lent t (now (rules .entry)) (now (rows .entry)) → At (now (rows .entry)) root r → steps.restore (resolveTable (now (text .entry)) t) (resolve (now (text .entry)) r) ≡ resolve (now (text .entry)) r) ⌝ }
 {
     // the names of a rule that is settled need no look
-    if settled_no(rules, marks, rows, i, root) {
-        return true;
+    let state = memory(rules, marks, i, root);
+    if state == YES {
+        return false;
+    }
+    if state == NO {
+        // unless a RestoreOnErr hides a change
+        if unset(rows, root) {
+            return true;
+        }
     }
     !alters(rules, marks, rows, text, root)
 }
