@@ -15,7 +15,8 @@ use Rattle.names.proofs.Finding.{rule-count, rows-before-all, length-rows}
 use Rattle.names.proofs.Marks.{length-marked, marked-other, marked-at, ended}
 use Rattle.names.proofs.Chains.{hashed-ends}
 use Rattle.restorer.specs.Search.{stateOf, Right, RuleSettled}
-use Rattle.restorer.specs.Lends.{Lent, Marked, Given, Steady, Stacked, Searching, Settles}
+use Rattle.restorer.specs.Lends.{Lent, Marked, Given, Steady, Settles}
+use Rattle.restorer.specs.Stacks.{Stacked, Searching}
 use Rattle.restorer.proofs.Memories.{inside-rule}
 use Rattle.restorer.proofs.Marks.{unseen-most, stack-top, count, count-resolved, given-steady}
 

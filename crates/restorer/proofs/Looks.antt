@@ -11,12 +11,13 @@ use Rattle.grammar.specs.Text.{resolve}
 use Rattle.grammar.specs.Table.{Table, resolveRule, resolveTable}
 use Rattle.names.proofs.Finding.{There}
 use Rattle.restorer.specs.Search.{stateOf, nowhere, Right, Walked, Looked, RuleSettled}
-use Rattle.restorer.specs.Lends.{Lent, unseen, Steady, Stacked, Searching, Ran, topOf, Left, Within, Closes, Leaves}
+use Rattle.restorer.specs.Lends.{Lent, Steady}
+use Rattle.restorer.specs.Stacks.{unseen, Stacked, Searching, Ran, topOf, Left, Within, Closes, Leaves}
 use Rattle.restorer.specs.declared.Outcome.{Outcome}
 use Rattle.restorer.specs.declared.Outcome.the-variants.{Reached, Silent}
 use Rattle.restorer.proofs.Memories.{rule-resolved}
 use Rattle.restorer.proofs.Settles.{open-right, looked, ends-yes, ends-no}
-use Rattle.restorer.proofs.Marks.{Sets, sets-state, pushed-less, pushed, stack-top, steady-more, steady-set, given-steady, count-resolved, rule-there}
+use Rattle.restorer.proofs.Marks.{Sets, sets-state, pushed-less, pushed, stack-top, steady-more, steady-set, given-steady, count-resolved}
 
 -- where the stack ends
 pub stack-within : {n : ℕ} {m st : List ℕ} {from top : ℕ} → Stacked n m st top → from ≤ top → n ≤ length st → n * 4 ≤ length m → Within m st from top

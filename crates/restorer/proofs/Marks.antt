@@ -1,10 +1,10 @@
 -- Marks in words: memories are written, with the stack of rules that are not settled, and what is lent stays lent. Assumes nothing.
 use mathlib.Core.Path.{_≡_, refl, sym, ap, _∙_, subst}
 use mathlib.Core.Bool.{Bool, true, false, cond}
-use mathlib.Core.List.{List, [], _∷_}
+use mathlib.Core.List.{List}
 use Prim.Native.Nat.{ℕ, zero, suc, _+_, _-_, _*_, _/_, _≤_, _<_}
 use native.Mathlib.Omega.{arith}
-use lib.ListN.{length, getD, set, length-set}
+use lib.ListN.{length, getD, set}
 use lib.Seq.{getD-set-same, getD-set-other}
 use native.Mathlib.Decide.{ℕ-discrete, decLt}
 use lib.Dec.{eqb}
@@ -19,7 +19,8 @@ use Rattle.names.specs.Names.{Ended}
 use Rattle.names.proofs.Chains.{hashed-kept}
 use Rattle.names.proofs.Finding.{There, there, rule-count, rule-words, body-at}
 use Rattle.restorer.specs.Search.{stateOf}
-use Rattle.restorer.specs.Lends.{Lent, Given, unseen, Steady, Stacked, Ran, Closes, TreeRows}
+use Rattle.restorer.specs.Lends.{Lent, Given, Steady, TreeRows}
+use Rattle.restorer.specs.Stacks.{unseen, Stacked, Ran, Closes}
 use Rattle.restorer.proofs.Memories.{length-resolved}
 
 -- ---- one memory is written

@@ -1,6 +1,6 @@
 -- The run of trees that is left to look at, and what a search over rows comes to. Assumes nothing.
 use mathlib.Core.Path.{_≡_, refl, sym, _∙_, subst}
-use mathlib.Core.Bool.{false≢true, Bool, true, false, _&&_, not, cond}
+use mathlib.Core.Bool.{Bool, true, false, _&&_, not, cond}
 use mathlib.Core.List.{List, [], _∷_, _++_}
 use mathlib.Core.Logic.{_⊎_, inl, inr}
 use Prim.Native.Nat.{ℕ, _+_, _-_, _/_, _≤_, _<_}
@@ -16,7 +16,8 @@ use Rattle.rows.specs.Rows.{At}
 use Rattle.rows.proofs.Laws.{root, size-pos}
 use Rattle.rows.proofs.Views.{at-unique}
 use Rattle.restorer.specs.Search.{stateOf, loud, Quiet, Right, Reach, Kept, Searches, Closed, nowhere, Changing, Passing, Walked, Looked}
-use Rattle.restorer.specs.Lends.{Lent, Searching, Ran, topOf, TreeRows}
+use Rattle.restorer.specs.Lends.{Lent, TreeRows}
+use Rattle.restorer.specs.Stacks.{Searching, Ran, topOf}
 use Rattle.restorer.specs.Walks.{Run, below, changesAt, AtRoot, Visited, GoesOn, Unseen, Least}
 use Rattle.restorer.specs.declared.Outcome.{Outcome}
 use Rattle.restorer.specs.declared.Outcome.the-variants.{Reached, Silent}

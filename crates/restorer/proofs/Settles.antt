@@ -16,7 +16,7 @@ use Rattle.grammar.specs.Table.{Rule, Table}
 use Rattle.grammar.specs.Stack.{stackNames, Reaches, at-push, at-name, through, down, left, right, changesIn}
 use Rattle.grammar.proofs.Logic.{none-some, some-eq, or-left}
 use Rattle.restorer.specs.Search.{stateOf, memoryOf, isQuiet, loud, Quiet, Right, RuleReaches, Reach, Kept, Searches, Closed, nowhere, Changing, Passing, Walked, Looked, RuleSettled}
-use Rattle.restorer.specs.Lends.{Stacked, topOf, Closes, Leaves}
+use Rattle.restorer.specs.Stacks.{Stacked, topOf, Closes, Leaves}
 use Rattle.restorer.specs.Walks.{positionOf}
 use Rattle.restorer.specs.declared.Outcome.{Outcome}
 use Rattle.restorer.specs.declared.Outcome.the-variants.{Reached, Silent}

@@ -2,9 +2,9 @@
 use mathlib.Core.Path.{_≡_, refl, sym, ap, ap₂, _∙_}
 use mathlib.Core.Bool.{Bool, true, false, false≢true, _||_}
 use mathlib.Core.List.{List}
-use Prim.Native.Nat.{ℕ, _+_, _-_, _*_, _/_, _≤_, _<_}
+use Prim.Native.Nat.{ℕ, _+_, _-_, _*_, _≤_}
 use native.Mathlib.Omega.{arith}
-use lib.ListN.{length, getD}
+use lib.ListN.{getD}
 use Rattle.grammar.specs.Basic.{Bytes}
 use Rattle.grammar.specs.Tree.{Un, PosPred, NegPred, Opt, Rep, RepOnce, Push, RestoreOnErr, RepExact, RepMin, RepMax, RepMinMax, Bin, Seq, Choice, Expr, E, lit, fixed, skip, un, bin, binKind, unHead, size}
 use Rattle.grammar.specs.Rows.{Span}
@@ -17,7 +17,6 @@ use Rattle.rows.specs.Rows.{At}
 use Rattle.rows.proofs.Laws.{root, at-un, at-left, at-right, size-pos}
 use Rattle.rows.proofs.Views.{at-unique}
 use Rattle.names.proofs.Finding.{There}
-use Rattle.restorer.specs.Search.{stateOf}
 use Rattle.restorer.specs.Lends.{Lent, Settles}
 use Rattle.restorer.specs.Restores.{isGuard, guardedIf, showsThrough, SettledNo, Unset}
 use Rattle.restorer.proofs.Memories.{or-no-left, or-no-right, rule-resolved}

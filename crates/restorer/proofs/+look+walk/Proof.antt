@@ -3,7 +3,7 @@ use mathlib.Core.Path.{_∙_}
 use Prim.Native.Nat.{_+_, _*_, _/_}
 use native.Mathlib.Omega.{arith}
 use lib.ListN.{length}
-use Rattle.restorer.specs.Lends.{unseen}
+use Rattle.restorer.specs.Stacks.{unseen}
 use Rattle.restorer.proofs.Marks.{rule-there, rule-at, rule-most, rule-tree}
 use Rattle.restorer.proofs.Looks.{look-room, look-less, look-opens, look-within, look-ran, look-left, look-says}
 use Rattle.restorer.proofs.Runs.{Walking, walk-start, walk-given, walk-top, asked, walk-next, walk-less, walk-met, walk-past, walk-ran, walk-told, walk-end}

@@ -7,9 +7,6 @@ use lib.ListN.{length-set}
 use Rattle.restorer.proofs.Marks.{Closing, closes-none, closing-next, steady-none, steady-more, steady-set}
 use Rattle.restorer.proofs.close.Statement.{statement}
 use Rattle.restorer.proofs.close.Tie as tie
-use Rattle.restorer.proofs.close.Reads as reads
-use Rattle.restorer.proofs.close.Lts as lts
-use Rattle.rows.proofs.wide.Reads as wide-reads
 
 abbrev Inv-loop : tie.InvT-loop
 Inv-loop marks₀ stack from top to p₀ marks p = Closing marks₀ marks stack from top to p

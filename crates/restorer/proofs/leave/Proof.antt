@@ -5,9 +5,6 @@ use Rattle.restorer.proofs.Looks.{leaves-reached, leaves-open, leaves-w
 use borrow.Author.Needs.{needs}
 use Rattle.restorer.proofs.leave.Statement.{statement}
 use Rattle.restorer.proofs.leave.Tie as tie
-use Rattle.restorer.proofs.leave.Reads as reads
-use Rattle.restorer.proofs.leave.Lts as lts
-use Rattle.restorer.proofs.close.Reads as close-reads
 
 enum-known-a : tie.Need-enum-known-a
 enum-known-a c = search needs

@@ -6,11 +6,6 @@ use lib.ListN.{length}
 use Rattle.restorer.proofs.Ends.{Settling, rows-fit, settling-start, settling-next, settling-end}
 use Rattle.restorer.proofs.settle.Statement.{statement}
 use Rattle.restorer.proofs.settle.Tie as tie
-use Rattle.restorer.proofs.settle.Reads as reads
-use Rattle.restorer.proofs.settle.Lts as lts
-use Rattle.names.proofs.mark_ends.Reads as mark-ends-reads
-use Rattle.restorer.proofs.forget.Reads as forget-reads
-use Rattle.restorer.proofs.settle_rule.Reads as settle-rule-reads
 
 abbrev Inv-loop : tie.InvT-loop
 Inv-loop rules rows text marks₀ stack₀ count i₀ marks stack i = Settling rules rows text marks₀ marks stack₀ stack i

@@ -6,10 +6,6 @@ use Rattle.restorer.proofs.Marks.{steady-none, steady-more, below-resol
 use borrow.Author.Needs.{needs}
 use Rattle.restorer.proofs.settle_rule.Statement.{statement}
 use Rattle.restorer.proofs.settle_rule.Tie as tie
-use Rattle.restorer.proofs.settle_rule.Reads as reads
-use Rattle.restorer.proofs.settle_rule.Lts as lts
-use Rattle.restorer.proofs.close.Reads as close-reads
-use Rattle.restorer.proofs.look.Reads as look-reads
 
 mul-if1 : tie.Need-mul-if1
 mul-if1 c = search needs

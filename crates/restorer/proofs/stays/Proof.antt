@@ -9,11 +9,6 @@ use borrow.Author.Tests.{not-true}
 use borrow.Author.Needs.{needs}
 use Rattle.restorer.proofs.stays.Statement.{statement}
 use Rattle.restorer.proofs.stays.Tie as tie
-use Rattle.restorer.proofs.stays.Reads as reads
-use Rattle.restorer.proofs.stays.Lts as lts
-use Rattle.restorer.proofs.alters.Reads as alters-reads
-use Rattle.restorer.proofs.memory.Reads as memory-reads
-use Rattle.restorer.proofs.unset.Reads as unset-reads
 
 memory-requires : tie.Need-memory-requires
 memory-requires c κs = let s = c .before .before .before .before in (s .pre .0 .hashed .long, omega (arith, root (s .pre .1 .1 .at) .inside, s .good .1 .1 .0))
