@@ -6,7 +6,7 @@ use Prim.Native.Nat.{ℕ, _+_, _-_, _/_}
 use native.Mathlib.Omega.{arith}
 use lib.ListN.{length}
 use Rattle.grammar.specs.Basic.{Bytes, member}
-use Rattle.grammar.specs.Tree.{Head, Lit, Ident, Un, RestoreOnErr, Bin, Expr, E, lit, un, bin, litKind, unHead, binKind, size}
+use Rattle.grammar.specs.Tree.{Head, Lit, Ident, Un, RestoreOnErr, Bin, Expr, E, lit, un, bin, litKind, unHead, binKind}
 use Rattle.grammar.specs.Rows.{Span}
 use Rattle.grammar.specs.Text.{bytesAt, resolve}
 use Rattle.grammar.specs.Table.{Table}
