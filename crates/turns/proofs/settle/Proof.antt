@@ -9,7 +9,6 @@ use Rattle.turns.proofs.settle.Statement.{statement}
 use Rattle.turns.proofs.settle.Tie as tie
 use Rattle.turns.proofs.settle.Reads as reads
 use Rattle.turns.proofs.settle.Lts as lts
-use Rattle.names.proofs.index_names.Reads as index-names-reads
 use Rattle.restorer.proofs.settle.Reads as settle-reads
 
 -- src/lib.rt:209:17
@@ -30,13 +29,6 @@ slice-aggregate-r c = sym (length-take-le _ _ (stands-within (c .before .before 
 -- src/lib.rt:213:9
 slice-aggregate-t : tie.Need-slice-aggregate-t
 slice-aggregate-t c = sym (length-take-le _ _ (stands-within (c .before .before .before .before .before .before .before .before .pre .0) .2))
-
--- src/lib.rt:214:5
-index-names-requires : tie.Need-index-names-requires
-index-names-requires c κs =
-    let s = c .before .before .before .before .before .before .before .before .before in
-    let l = length-take (s .args .count) (s .args .heads .now) in
-    (stands-holds (s .pre .0) .names, (omega (arith, l, s .pre .1 .0), omega (arith, l, s .pre .1 .1)))
 
 -- src/lib.rt:215:5
 settle-requires : tie.Need-settle-requires
@@ -62,7 +54,6 @@ settle-spec =
     slice-aggregate-h
     slice-aggregate-r
     slice-aggregate-t
-    index-names-requires
     settle-requires
     same-length
     returns)
