@@ -101,7 +101,7 @@ settling-next {rules} {rows} {text} {m} {m₁} {m₂} {st} {st₁} {st₂} {i} i
     }
   where
     go : (t : Table Span) → Lent t rules rows → (j : ℕ) → j < i + 1 → RuleSettled (resolveTable text t) m₁ m₂ i → Dec (j < i) → 2 ≤ stateOf m₂ j
-    go t l j h a (yes b) = let q = inv .so t l .1 j b in omega (arith, a .kept j (omega (arith, count-resolved l text)) q, q)
+    go t l j h a (yes b) = let q = inv .so t l .1 j b in omega (arith, a .kept .same j (omega (arith, count-resolved l text)) (omega arith), q)
     go t l j h a (no b) = let e : j ≡ i = omega arith in rw e (a .here)
 
 pub settling-end : {rules rows : List ℕ} {text : Bytes} {m m₁ st st₁ : List ℕ} {i : ℕ} → Settling rules rows text m m₁ st st₁ i → length rules / 4 ≤ i → Settles rules rows text m₁

@@ -234,7 +234,7 @@ module _ {t : Table Bytes} {m m₁ m₂ st : List ℕ} {i : ℕ} (low : (j : ℕ
       record {
         right = closes-right t c (s .right) (λ e. absurd (omega arith)) (λ j v r k. (λ e. absurd (omega arith), λ _. s .spreads (λ n b q is. absurd (omega (arith, low n (inside-rule t n q is)))) j v r k));
         here = go (closes-case t c i below);
-        kept = λ j l h. let e = s .kept .same j l (omega arith) in c .kept j l (omega (arith, e, low j l)) ∙ e;
+        kept = record { same = λ j l h. let e = s .kept .same j l h in c .kept j l (omega (arith, e, low j l)) ∙ e };
       }
     where
       go : (4 + 0 ≤ stateOf m₁ i × stateOf m₂ i ≡ 3) ⊎ (stateOf m₁ i < 4 + 0 × stateOf m₂ i ≡ stateOf m₁ i) → 2 ≤ stateOf m₂ i
@@ -242,11 +242,11 @@ module _ {t : Table Bytes} {m m₁ m₂ st : List ℕ} {i : ℕ} (low : (j : ℕ
       go (inr p) = omega (arith, p .1, a .0)
 
 pub ends-no : {t : Table Bytes} {m m₁ : List ℕ} {i : ℕ} (low high : ℕ) → Looked (Silent low high) t 0 m m₁ i → RuleSettled t m m₁ i
-ends-no low high a = record { right = a .1 .searches .right; here = a .0; kept = λ j l h. a .1 .searches .kept .same j l (omega arith) }
+ends-no low high a = record { right = a .1 .searches .right; here = a .0; kept = a .1 .searches .kept }
 
 -- a rule that is settled already
 pub ends-settled : {t : Table Bytes} {m : List ℕ} {i : ℕ} → Right t m → i < length t → (stateOf m i ≡ 0 → ⊥) → RuleSettled t m m i
-ends-settled {t} {m} {i} h l n = record { right = h; here = go (stateOf m i) refl; kept = λ j b k. refl }
+ends-settled {t} {m} {i} h l n = record { right = h; here = go (stateOf m i) refl; kept = kept-none t m }
   where
     go : (v : ℕ) → stateOf m i ≡ v → 2 ≤ v
     go zero e = absurd (n e)

@@ -1,6 +1,6 @@
 -- Searching for a change of the stack through the rules of a table, with a memory for each rule: word 1 of its mark is 0 where the rule was not
--- seen, 2 where the stack cannot change through it, 3 where it can, and 4 + p where that is not settled: the rule stands at position p of the
--- search's own stack of rules. Assumes nothing.
+-- seen, 2 where the stack cannot change through it, 3 where it can, and 4 + p where the rule is open: its rows are being walked, or lead to a
+-- rule whose rows are, and it stands at position p among those. Assumes nothing.
 use mathlib.Core.Path.{_≡_}
 use mathlib.Core.Bool.{Bool, true, false, _||_, not, cond}
 use mathlib.Core.List.{List, [], _∷_}
@@ -27,7 +27,7 @@ memoryFrom i (r ∷ rs) m x = cond (sameBytes (r .name) x) (stateOf m i) (memory
 unfoldable pub memoryOf : Table Bytes → List ℕ → Bytes → ℕ
 memoryOf t m x = memoryFrom 0 t m x
 
--- settled as one through which the stack cannot change, or at position `low` of the stack or above
+-- settled as one through which the stack cannot change, or open at position `low` or above
 abbrev pub isQuiet : ℕ → ℕ → Bool
 isQuiet low s = eqb s 2 || leb (4 + low) s
 
@@ -56,23 +56,23 @@ Reach t m such = (i : ℕ) → such (stateOf m i) → RuleReaches t i
 pub record Kept (t : Table Bytes) (m m′ : List ℕ) : Type 0 where
   pub same : (i : ℕ) → i < length t → 1 ≤ stateOf m i → stateOf m′ i ≡ stateOf m i
 
--- a search that changes the marks m to m′ forgets nothing, what it settles is right, what it puts on the stack stands at `top` or above, and
--- reaches a change if all that stood there before does
+-- a search that changes the marks m to m′ forgets nothing, what it settles is right, and the rules that it leaves open stand at `top` or above
+-- and reach a change if all do that were open before
 pub record Searches (t : Table Bytes) (top : ℕ) (m m′ : List ℕ) : Type 0 where
   pub right : Right t m′
   pub kept : Kept t m m′
   pub was : (i : ℕ) → i < length t → 4 ≤ stateOf m′ i → stateOf m′ i < 4 + top → stateOf m i ≡ stateOf m′ i
   pub spreads : Reach t m (λ s. 4 ≤ s) → Reach t m′ (λ s. 4 ≤ s)
 
--- the rules that it put on the stack are quiet
+-- the rules that it leaves open are quiet
 abbrev pub Closed : Table Bytes → ℕ → List ℕ → List ℕ → Type 0
 Closed t low m m′ = (i : ℕ) (r : Rule Bytes) → getElem? t i ≡ some r → stateOf m i ≡ 0 → 4 ≤ stateOf m′ i → Quiet t m′ low (r .body)
 
--- the lowest position where no rule of the stack was named
+-- the lowest position that was named, where none was
 abbrev pub nowhere : ℕ
 nowhere = 4294967295
 
--- it found a change: `reaches`
+-- it found a change
 pub record Changing (t : Table Bytes) (top : ℕ) (m m′ : List ℕ) (Reaching : Type 0) : Type 0 where
   pub searches : Searches t top m m′
   pub reaches : Reaching
@@ -99,7 +99,7 @@ Looked a t top m m′ i = (2 ≤ stateOf m′ i) × Answers a t top m m′ (λ l
 pub record RuleSettled (t : Table Bytes) (m m′ : List ℕ) (i : ℕ) : Type 0 where
   pub right : Right t m′
   pub here : 2 ≤ stateOf m′ i
-  pub kept : (j : ℕ) → j < length t → 2 ≤ stateOf m j → stateOf m′ j ≡ stateOf m j
+  pub kept : Kept t m m′
 
 -- every rule is settled
 pub record Settled (t : Table Bytes) (m : List ℕ) : Type 0 where

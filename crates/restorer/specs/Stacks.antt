@@ -1,4 +1,4 @@
--- The stack of rules that a search has not settled: rule i stands at position p where its memory is 4 + p. Assumes nothing.
+-- The stack of the rules that are open in a search. Assumes nothing.
 use mathlib.Core.Path.{_≡_}
 use mathlib.Core.Bool.{cond}
 use mathlib.Core.List.{List}
@@ -17,7 +17,7 @@ abbrev pub unseen : ℕ → List ℕ → ℕ
 unseen zero m = 0
 unseen (suc n) m = cond (eqb (stateOf m n) 0) 1 0 + unseen n m
 
--- of n rules, those that are not settled are the first `top` of the stack, each at the position that its memory says; there is room for the others
+-- of n rules, those that are open are the first `top` of the stack, each at the position that its memory says; there is room for the others
 pub record Stacked (n : ℕ) (m stack : List ℕ) (top : ℕ) : Type 0 where
   pub below : (p : ℕ) → p < top → getD stack p 0 < n
   pub place : (p : ℕ) → p < top → stateOf m (getD stack p 0) ≡ 4 + p
@@ -42,7 +42,7 @@ abbrev pub topOf : Outcome → ℕ
 topOf (Reached high) = high
 topOf (Silent low high) = high
 
--- a rule that was looked into is left on the stack only where a rule below it was named
+-- a rule that was looked into stays open only where a rule below it was named
 abbrev pub Left : Outcome → ℕ → Type 0
 Left (Reached high) top = Unit {0}
 Left (Silent low high) top = (low < top) ⊎ (high ≡ top)
@@ -60,7 +60,7 @@ pub record Closes (n : ℕ) (m m′ stack : List ℕ) (from to : ℕ) : Type 0 w
   pub kept : (i : ℕ) → i < n → stateOf m i < 4 + from → stateOf m′ i ≡ stateOf m i
   pub fewer : unseen n m′ ≤ unseen n m
 
--- a rule at position `top` is left: its group is settled as one without a change where nothing below it was named
+-- the rule at position `top` is left: where no rule below it was named, it and those above it are settled as ones without a change
 abbrev pub Leaves : Outcome → Outcome → ℕ → (m m′ stack : List ℕ) → Type 0
 Leaves (Reached high) b top m m′ stack = (b ≡ Reached high) × (m′ ≡ m)
 Leaves (Silent low high) b top m m′ stack = ((low < top) × (b ≡ Silent low high) × (m′ ≡ m)) ⊎ ((top ≤ low) × (b ≡ Silent nowhere top) × ((n : ℕ) → Stacked n m stack high → Closes n m m′ stack top 2))

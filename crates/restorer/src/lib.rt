@@ -1,4 +1,4 @@
-// Restore: whether the stack can change through each rule of a table, and step 7 on a subtree. A rule's memory is word 1 of its mark: 0 not seen, 2 the stack cannot change through it, 3 it can, 4 + p not settled, at position p of the stack of such rules.
+// Restore: whether the stack can change through each rule of a table, and step 7 on a subtree. A rule's memory is word 1 of its mark: 0 not seen, 2 the stack cannot change through it, 3 it can, 4 + p it is open, at position p of the stack of open rules.
 ghost use mathlib.Core.Path.{_≡_};
 ghost use mathlib.Core.Bool.{true, false, _||_};
 ghost use Prim.Native.Nat.{ℕ, _+_, _-_, _*_, _/_, _^_, _≤_, _<_};
@@ -35,17 +35,17 @@ const NO: u32 = 2;
 
 const YES: u32 = 3;
 
-// the lowest position where no rule of the stack was named
+// the lowest position that was named, where none was
 const NOWHERE: usize = 4294967295;
 
-// What a row says of the stack: it can change, or nothing shows and the search goes on before this row (with the position of the rule that it names), or a rule that was not seen is to say it.
+// What a row says of the stack: it can change, or nothing shows and the search goes on before this row, with the position of the open rule that it names, or a rule that was not seen is to say it.
 enum Step {
     Changes,
     Next(usize, usize),
     Into(usize),
 }
 
-// How a search ends: a change is reached, or nothing shows, with the lowest position that was named. Then where the stack of rules ends.
+// How a search ends: a change is reached, or nothing shows, with the lowest position that was named; and where the open rules end.
 enum Outcome {
     Reached(usize),
     Silent(usize, usize),
@@ -134,7 +134,7 @@ fn least(a: usize, b: usize) -> usize
     a
 }
 
-// Puts rule i at position `top` of the stack.
+// Opens rule i at position `top`.
 fn enter(marks: &mut [u32], stack: &mut [u32], i: usize, top: usize)
     requires { ⌜ (i * 4 + 1 < length (now marks)) × (i < 2 ^ 30) ⌝ }
     requires { ⌜ (top < length (now stack)) × (top < 2 ^ 30) ⌝ }
@@ -145,7 +145,7 @@ fn enter(marks: &mut [u32], stack: &mut [u32], i: usize, top: usize)
     stack[top] = i as u32;
 }
 
-// Settles the rules from position `from` to `top` of the stack as `to`.
+// Settles the open rules from position `from` to `top` as `to`.
 fn close(marks: &mut [u32], stack: &[u32], from: usize, top: usize, to: u32)
     requires { ⌜ Within (now marks) (now stack) from top ⌝ }
     requires { ⌜ (1 < to) × (to < 4) ⌝ }
@@ -160,7 +160,7 @@ fn close(marks: &mut [u32], stack: &[u32], from: usize, top: usize, to: u32)
     }
 }
 
-// Leaves the rule at position `top` after its rows are walked: where they name no rule below it, nothing can change through its group.
+// Leaves the rule at position `top`, whose rows are walked: if no rule below it was named, the stack cannot change through it and those above it.
 fn leave(marks: &mut [u32], stack: &[u32], a: Outcome, top: usize) -> Outcome
     requires { ⌜ Within (now marks) (now stack) top (topOf a) ⌝ }
     ensures { λ b. ⌜ Steady (now (marks .entry)) (now (marks .exit)) ⌝ }
@@ -178,7 +178,7 @@ fn leave(marks: &mut [u32], stack: &[u32], a: Outcome, top: usize) -> Outcome
     }
 }
 
-// Whether the stack can change through rule i, which was not seen and comes to position `top`, as far as this search can tell.
+// Whether the stack can change through rule i, which was not seen and is opened at position `top`, as far as this search can tell.
 fn look(
     rules: &[u32],
     rows: &[u32],
@@ -269,7 +269,7 @@ fn forget(marks: &mut [u32], count: usize)
     }
 }
 
-// Settles rule i and all that are named from it. Where a change is reached, all that are on the stack lead to it.
+// Settles rule i and what it leads to. Where a change is reached, every rule that is open leads to it.
 fn settle_rule(
     rules: &[u32],
     rows: &[u32],
@@ -293,7 +293,7 @@ fn settle_rule(
     close(marks, stack, 0, top, YES);
 }
 
-// Settles every rule of the table: whether the stack can change through it. Each rule is walked once.
+// Settles every rule of the table: whether the stack can change through it. Each is walked once; `stack` is room for the open ones.
 pub fn settle(rules: &[u32], rows: &[u32], text: &[u8], marks: &mut [u32], stack: &mut [u32])
     requires { ⌜ Marked (now rules) (now rows) (now text) (now marks) ⌝ }
     requires { ⌜ length (now rows) < 2 ^ 32 ⌝ }

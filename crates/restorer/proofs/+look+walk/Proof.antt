@@ -65,7 +65,9 @@ look-wide-requires : (t : ℕ) → look-lts.Need-wide-requires (calls-look t) (l
 look-wide-requires t c κs = search needs
 
 look-enter-requires : (t : ℕ) → look-lts.Need-enter-requires (calls-look t) (look-at t) look.Post
-look-enter-requires t c κs = let s = c .before .before .before .before .before .before .before .before .before in let r = look-room (s .pre .1 .0) (s .pre .1 .1 .0) (s .pre .1 .1 .1) in let g = s .pre .1 .0 in ((omega (arith, s .pre .1 .1 .0, g .given .marked .hashed .long), omega (arith, s .pre .1 .1 .0, g .few)), (omega (arith, r, g .long), omega (arith, r, g .few)))
+look-enter-requires t c κs = let s = c .before .before .before .before .before .before .before .before .before in
+    let r = look-room (s .pre .1 .0) (s .pre .1 .1 .0) (s .pre .1 .1 .1) in
+    let g = s .pre .1 .0 in ((omega (arith, s .pre .1 .1 .0, g .given .marked .hashed .long), omega (arith, s .pre .1 .1 .0, g .few)), (omega (arith, r, g .long), omega (arith, r, g .few)))
 
 look-add-wide-2 : (t : ℕ) → look-lts.Need-add-wide-2 (calls-look t) (look-at t) look.Post
 look-add-wide-2 t c = let s = c .before .before .before .before .before .before .before .before .before .before .before .before .before .before .before .before in omega (arith, s .pre .1 .1 .0, s .pre .1 .0 .few)
@@ -80,47 +82,61 @@ look-wide-requires-2 : (t : ℕ) → look-lts.Need-wide-requires-2 (calls-look t
 look-wide-requires-2 t c κs = search needs
 
 look-sub-walk : (t : ℕ) → look-lts.Need-sub-walk (calls-look t) (look-at t) look.Post
-look-sub-walk t c = let s = c .before .before .before .before .before .before .before .before .before .before .before .before .before .before .before .before .before .before in let g = s .pre .1 .0 .given in rule-most (g .marked .lent) (s .args .marks .now) (s .args .i) (rule-there (g .marked .lent) (s .args .i) (s .pre .1 .1 .0)) (s .pre .1 .1 .0) (g .ended) _ _ (c .before .before .before .before .before .before .before .before .before .before .before .wide .ensures) (c .wide2 .ensures)
+look-sub-walk t c = let at-wide = c .before .before .before .before .before .before .before .before .before .before .before in
+    let s = at-wide .before .before .before .before .before .before .before in
+    let g = s .pre .1 .0 .given in rule-most (g .marked .lent) (s .args .marks .now) (s .args .i) (rule-there (g .marked .lent) (s .args .i) (s .pre .1 .1 .0)) (s .pre .1 .1 .0) (g .ended) _ _ (at-wide .wide .ensures) (c .wide2 .ensures)
 
 look-add-walk : (t : ℕ) → look-lts.Need-add-walk (calls-look t) (look-at t) look.Post
 look-add-walk t c = let s = c .before .before .before .before .before .before .before .before .before .before .before .before .before .before .before .before .before .before in omega (arith, look-room (s .pre .1 .0) (s .pre .1 .1 .0) (s .pre .1 .1 .1), s .pre .1 .0 .few)
 
 look-walk-requires : (t : ℕ) → look-lts.Need-walk-requires (calls-look t) (look-at t) look.Post
-look-walk-requires t c κs = let s = c .before .before .before .before .before .before .before .before .before .before .before .before .before .before .before .before .before .before in
+look-walk-requires t c κs = let at-enter = c .before .before .before .before .before .before .before .before in
+    let at-wide = at-enter .before .before .before in
+    let s = at-wide .before .before .before .before .before .before .before in
     let g = s .pre .1 .0 in
     let h = s .pre .1 .1 .0 in
     let z = s .pre .1 .1 .1 in
     let d = g .given in
-    let e = c .before .before .before .before .before .before .before .before .enter .ensures in (
+    let e = at-enter .enter .ensures in (
       omega (arith, s .pre .0, look-less g h z (e .0) (e .1)),
-      (look-opens g h z (e .0) (e .1), rule-tree (d .marked .lent) (s .args .marks .now) (s .args .i) (rule-there (d .marked .lent) (s .args .i) h) h (d .ended) _ _ (c .before .before .before .before .before .before .before .before .before .before .before .wide .ensures) (c .wide2 .ensures)),
+      (look-opens g h z (e .0) (e .1), rule-tree (d .marked .lent) (s .args .marks .now) (s .args .i) (rule-there (d .marked .lent) (s .args .i) h) h (d .ended) _ _ (at-wide .wide .ensures) (c .wide2 .ensures)),
     )
 
 look-leave-requires : (t : ℕ) → look-lts.Need-leave-requires (calls-look t) (look-at t) look.Post
-look-leave-requires t c κs = let s = c .before .before .before .before .before .before .before .before .before .before .before .before .before .before .before .before .before .before .before .before .before .before .before .before .before in
-    let e = c .before .before .before .before .before .before .before .before .before .before .before .before .before .before .before .enter .ensures in
-    let w = c .before .before .before .before .before .before .walk in look-within (s .pre .1 .0) (s .pre .1 .1 .0) (s .pre .1 .1 .1) (e .0) (e .1) (w .result) (w .ensures .0) (w .kept .1 .1 .1 .0) (w .kept .1 .1 .1 .1 .0)
+look-leave-requires t c κs = let at-walk = c .before .before .before .before .before .before in
+    let at-enter = at-walk .before .before .before .before .before .before .before .before .before in
+    let s = at-enter .before .before .before .before .before .before .before .before .before .before in
+    let e = at-enter .enter .ensures in
+    let w = at-walk .walk in look-within (s .pre .1 .0) (s .pre .1 .1 .0) (s .pre .1 .1 .1) (e .0) (e .1) (w .result) (w .ensures .0) (w .kept .1 .1 .1 .0) (w .kept .1 .1 .1 .1 .0)
 
 look-same-length : (t : ℕ) → look-lts.Need-same-length (calls-look t) (look-at t) look.Post
-look-same-length t c = c .before .before .leave .kept .0 ∙ c .before .before .before .before .before .before .before .before .before .walk .kept .1 .1 .1 .0 ∙ c .before .before .before .before .before .before .before .before .before .before .before .before .before .before .before .before .before .before .enter .kept .0
+look-same-length t c = let at-leave = c .before .before in
+    let at-walk = at-leave .before .before .before .before .before .before .before in
+    let at-enter = at-walk .before .before .before .before .before .before .before .before .before in at-leave .leave .kept .0 ∙ at-walk .walk .kept .1 .1 .1 .0 ∙ at-enter .enter .kept .0
 
 look-same-length-2 : (t : ℕ) → look-lts.Need-same-length-2 (calls-look t) (look-at t) look.Post
-look-same-length-2 t c = c .before .before .before .before .before .before .before .before .before .walk .kept .1 .1 .1 .1 .0 ∙ c .before .before .before .before .before .before .before .before .before .before .before .before .before .before .before .before .before .before .enter .kept .1 .0
+look-same-length-2 t c = let at-walk = c .before .before .before .before .before .before .before .before .before in
+    let at-enter = at-walk .before .before .before .before .before .before .before .before .before in at-walk .walk .kept .1 .1 .1 .1 .0 ∙ at-enter .enter .kept .1 .0
 
 look-returns : (t : ℕ) → look-lts.Need-returns (calls-look t) (look-at t) look.Post
-look-returns t c = let s = c .before .before .before .before .before .before .before .before .before .before .before .before .before .before .before .before .before .before .before .before .before .before .before .before .before .before .before .before in
+look-returns t c = let at-leave = c .before .before in
+    let at-walk = at-leave .before .before .before .before .before .before .before in
+    let at-wide2 = at-walk .before in
+    let at-enter = at-wide2 .before .before .before .before .before .before .before .before in
+    let at-wide = at-enter .before .before .before in
+    let s = at-wide .before .before .before .before .before .before .before in
     let g = s .pre .1 .0 in
     let d = g .given in
     let i = s .args .i in
     let h = s .pre .1 .1 .0 in
     let z = s .pre .1 .1 .1 in
-    let e = c .before .before .before .before .before .before .before .before .before .before .before .before .before .before .before .before .before .before .enter .ensures in
-    let w = c .before .before .before .before .before .before .before .before .before .walk in
-    let v = c .before .before .leave in (
+    let e = at-enter .enter .ensures in
+    let w = at-walk .walk in
+    let v = at-leave .leave in (
       look-ran g h z (e .0) (e .1) (w .result) (w .ensures .0) (v .result) (v .ensures .0) (v .ensures .1),
       (
         look-left g h z (e .0) (e .1) (w .result) (w .ensures .0) (v .result) (v .ensures .0) (v .ensures .1),
-        λ u l k. let r = rule-there l i h in look-says g h z (e .0) (e .1) (w .result) (w .ensures .0) (v .result) (v .ensures .0) (v .ensures .1) u l r k (w .ensures .1 u (r .rule .body) l (rule-at l (s .args .marks .now) i r h (d .ended) _ _ (c .before .before .before .before .before .before .before .before .before .before .before .before .before .before .before .before .before .before .before .before .before .wide .ensures) (c .before .before .before .before .before .before .before .before .before .before .wide2 .ensures))),
+        λ u l k. let r = rule-there l i h in look-says g h z (e .0) (e .1) (w .result) (w .ensures .0) (v .result) (v .ensures .0) (v .ensures .1) u l r k (w .ensures .1 u (r .rule .body) l (rule-at l (s .args .marks .now) i r h (d .ended) _ _ (at-wide .wide .ensures) (at-wide2 .wide2 .ensures))),
       ),
     )
 
@@ -137,7 +153,11 @@ walk-sub-visit : (t : ℕ) → walk-lts.Need-sub-visit (calls-walk t) (walk-at t
 walk-sub-visit t c = omega (arith, c .before .loop-test .taken)
 
 walk-visit-requires : (t : ℕ) → walk-lts.Need-visit-requires (calls-walk t) (walk-at t) walk.Post walk-Inv-loop walk-μ-loop
-walk-visit-requires t c κs = let s = c .before .before .before .before .before .before .before .before in let inv = c .before .before .loop .inv in let q = walk-top inv (c .before .loop-test .taken) in (walk-given inv (s .pre .1 .0) .given, record { tree = q .tree; at = q .at })
+walk-visit-requires t c κs = let at-loop-test = c .before in
+    let at-loop = at-loop-test .before in
+    let s = at-loop .before .before .before .before .before .before in
+    let inv = at-loop .loop .inv in
+    let q = walk-top inv (at-loop-test .loop-test .taken) in (walk-given inv (s .pre .1 .0) .given, record { tree = q .tree; at = q .at })
 
 walk-enum-told : (t : ℕ) → walk-lts.Need-enum-told (calls-walk t) (walk-at t) walk.Post walk-Inv-loop walk-μ-loop
 walk-enum-told t c = search needs
@@ -149,7 +169,11 @@ walk-same-length-2 : (t : ℕ) → walk-lts.Need-same-length-2 (calls-walk t) (w
 walk-same-length-2 t c = c .before .before .before .before .before .loop .inv .longs
 
 walk-returns : (t : ℕ) → walk-lts.Need-returns (calls-walk t) (walk-at t) walk.Post walk-Inv-loop walk-μ-loop
-walk-returns t c = let inv = c .before .before .before .before .before .loop .inv in let v = c .before .before .visit .ensures in (inv .ran, walk-met inv (c .before .before .before .before .loop-test .taken) (v .1 .0) (v .1 .1) (c .enum-told .given .1))
+walk-returns t c = let at-visit = c .before .before in
+    let at-loop-test = at-visit .before .before in
+    let at-loop = at-loop-test .before in
+    let inv = at-loop .loop .inv in
+    let v = at-visit .visit .ensures in (inv .ran, walk-met inv (at-loop-test .loop-test .taken) (v .1 .0) (v .1 .1) (c .enum-told .given .1))
 
 walk-enum-known-j : (t : ℕ) → walk-lts.Need-enum-known-j (calls-walk t) (walk-at t) walk.Post walk-Inv-loop walk-μ-loop
 walk-enum-known-j t c = search needs
@@ -158,28 +182,52 @@ walk-least-requires : (t : ℕ) → walk-lts.Need-least-requires (calls-walk t) 
 walk-least-requires t c κs = search needs
 
 walk-loop-less : (t : ℕ) → walk-lts.Need-loop-less (calls-walk t) (walk-at t) walk.Post walk-Inv-loop walk-μ-loop
-walk-loop-less t c = let inv = c .before .before .before .before .before .before .before .loop .inv in let v = c .before .before .before .before .visit .ensures in walk-less inv (c .before .before .before .before .before .before .loop-test .taken) (v .1 .0) (v .1 .1) (c .before .before .j .given .1)
+walk-loop-less t c = let at-j = c .before .before in
+    let at-visit = at-j .before .before in
+    let at-loop-test = at-visit .before .before in
+    let at-loop = at-loop-test .before in
+    let inv = at-loop .loop .inv in
+    let v = at-visit .visit .ensures in walk-less inv (at-loop-test .loop-test .taken) (v .1 .0) (v .1 .1) (at-j .j .given .1)
 
 walk-loop-again : (t : ℕ) → walk-lts.Need-loop-again (calls-walk t) (walk-at t) walk.Post walk-Inv-loop walk-μ-loop
-walk-loop-again t c = let inv = c .before .before .before .before .before .before .before .loop .inv in let v = c .before .before .before .before .visit .ensures in walk-next inv (c .before .before .before .before .before .before .loop-test .taken) (v .1 .0) (v .1 .1) (c .before .before .j .given .1) (c .least .ensures)
+walk-loop-again t c = let at-j = c .before .before in
+    let at-visit = at-j .before .before in
+    let at-loop-test = at-visit .before .before in
+    let at-loop = at-loop-test .before in
+    let inv = at-loop .loop .inv in
+    let v = at-visit .visit .ensures in walk-next inv (at-loop-test .loop-test .taken) (v .1 .0) (v .1 .1) (at-j .j .given .1) (c .least .ensures)
 
 walk-enum-known-k : (t : ℕ) → walk-lts.Need-enum-known-k (calls-walk t) (walk-at t) walk.Post walk-Inv-loop walk-μ-loop
 walk-enum-known-k t c = search needs
 
 walk-look-requires : (t : ℕ) → walk-lts.Need-look-requires (calls-walk t) (walk-at t) walk.Post walk-Inv-loop walk-μ-loop
-walk-look-requires t c κs = let s = c .before .before .before .before .before .before .before .before .before .before .before .before .before .before in let inv = c .before .before .before .before .before .before .before .before .loop .inv in (omega (arith, s .pre .0, inv .ran .fewer), (walk-given inv (s .pre .1 .0), asked _ _ _ (c .before .before .before .k .given .1) (c .before .before .before .before .before .visit .ensures .0)))
+walk-look-requires t c κs = let at-k = c .before .before .before in
+    let at-visit = at-k .before .before in
+    let at-loop = at-visit .before .before .before in
+    let s = at-loop .before .before .before .before .before .before in
+    let inv = at-loop .loop .inv in (omega (arith, s .pre .0, inv .ran .fewer), (walk-given inv (s .pre .1 .0), asked _ _ _ (at-k .k .given .1) (at-visit .visit .ensures .0)))
 
 walk-enum-known-h : (t : ℕ) → walk-lts.Need-enum-known-h (calls-walk t) (walk-at t) walk.Post walk-Inv-loop walk-μ-loop
 walk-enum-known-h t c = search needs
 
 walk-same-length-3 : (t : ℕ) → walk-lts.Need-same-length-3 (calls-walk t) (walk-at t) walk.Post walk-Inv-loop walk-μ-loop
-walk-same-length-3 t c = c .before .before .before .before .before .before .before .look .kept .1 .1 .1 .0 ∙ c .before .before .before .before .before .before .before .before .before .before .before .before .before .before .before .before .loop .inv .long
+walk-same-length-3 t c = let at-look = c .before .before .before .before .before .before .before in
+    let at-loop = at-look .before .before .before .before .before .before .before .before .before in at-look .look .kept .1 .1 .1 .0 ∙ at-loop .loop .inv .long
 
 walk-same-length-4 : (t : ℕ) → walk-lts.Need-same-length-4 (calls-walk t) (walk-at t) walk.Post walk-Inv-loop walk-μ-loop
-walk-same-length-4 t c = c .before .before .before .before .before .before .before .look .kept .1 .1 .1 .1 .0 ∙ c .before .before .before .before .before .before .before .before .before .before .before .before .before .before .before .before .loop .inv .longs
+walk-same-length-4 t c = let at-look = c .before .before .before .before .before .before .before in
+    let at-loop = at-look .before .before .before .before .before .before .before .before .before in at-look .look .kept .1 .1 .1 .1 .0 ∙ at-loop .loop .inv .longs
 
 walk-returns-2 : (t : ℕ) → walk-lts.Need-returns-2 (calls-walk t) (walk-at t) walk.Post walk-Inv-loop walk-μ-loop
-walk-returns-2 t c = let inv = c .before .before .before .before .before .before .before .before .before .before .before .before .before .before .before .before .loop .inv in let v = c .before .before .before .before .before .before .before .before .before .before .before .before .before .visit .ensures in let o = c .before .before .before .before .before .before .before .look in (walk-ran inv (c .before .before .before .before .before .before .before .before .before .before .before .before .before .before .before .loop-test .taken) (v .1 .0) (v .1 .1) (c .before .before .before .before .before .before .before .before .before .before .before .k .given .1) (o .ensures .0) (o .ensures .1 .1) (c .before .h .given .1), walk-told inv (c .before .before .before .before .before .before .before .before .before .before .before .before .before .before .before .loop-test .taken) (v .1 .0) (v .1 .1) (c .before .before .before .before .before .before .before .before .before .before .before .k .given .1) (o .ensures .0) (o .ensures .1 .1) (c .before .h .given .1))
+walk-returns-2 t c = let at-h = c .before in
+    let at-look = at-h .before .before .before .before .before .before in
+    let at-k = at-look .before .before .before .before in
+    let at-visit = at-k .before .before in
+    let at-loop-test = at-visit .before .before in
+    let at-loop = at-loop-test .before in
+    let inv = at-loop .loop .inv in
+    let v = at-visit .visit .ensures in
+    let o = at-look .look in (walk-ran inv (at-loop-test .loop-test .taken) (v .1 .0) (v .1 .1) (at-k .k .given .1) (o .ensures .0) (o .ensures .1 .1) (at-h .h .given .1), walk-told inv (at-loop-test .loop-test .taken) (v .1 .0) (v .1 .1) (at-k .k .given .1) (o .ensures .0) (o .ensures .1 .1) (at-h .h .given .1))
 
 walk-enum-known-l : (t : ℕ) → walk-lts.Need-enum-known-l (calls-walk t) (walk-at t) walk.Post walk-Inv-loop walk-μ-loop
 walk-enum-known-l t c = search needs
@@ -194,7 +242,15 @@ walk-loop-less-2 : (t : ℕ) → walk-lts.Need-loop-less-2 (calls-walk t) (walk-
 walk-loop-less-2 t c = omega (arith, c .before .before .before .before .before .before .before .before .before .before .before .before .before .before .before .before .loop-test .taken)
 
 walk-loop-again-2 : (t : ℕ) → walk-lts.Need-loop-again-2 (calls-walk t) (walk-at t) walk.Post walk-Inv-loop walk-μ-loop
-walk-loop-again-2 t c = let inv = c .before .before .before .before .before .before .before .before .before .before .before .before .before .before .before .before .before .loop .inv in let v = c .before .before .before .before .before .before .before .before .before .before .before .before .before .before .visit .ensures in let o = c .before .before .before .before .before .before .before .before .look in walk-past inv (c .before .before .before .before .before .before .before .before .before .before .before .before .before .before .before .before .loop-test .taken) (v .1 .0) (v .1 .1) (c .before .before .before .before .before .before .before .before .before .before .before .before .k .given .1) (o .ensures .0) (o .ensures .1 .1) (c .before .before .l .given .1) (c .least2 .ensures) (o .kept .1 .1 .1 .0) (o .kept .1 .1 .1 .1 .0)
+walk-loop-again-2 t c = let at-l = c .before .before in
+    let at-look = at-l .before .before .before .before .before .before in
+    let at-k = at-look .before .before .before .before in
+    let at-visit = at-k .before .before in
+    let at-loop-test = at-visit .before .before in
+    let at-loop = at-loop-test .before in
+    let inv = at-loop .loop .inv in
+    let v = at-visit .visit .ensures in
+    let o = at-look .look in walk-past inv (at-loop-test .loop-test .taken) (v .1 .0) (v .1 .1) (at-k .k .given .1) (o .ensures .0) (o .ensures .1 .1) (at-l .l .given .1) (c .least2 .ensures) (o .kept .1 .1 .1 .0) (o .kept .1 .1 .1 .1 .0)
 
 walk-same-length-5 : (t : ℕ) → walk-lts.Need-same-length-5 (calls-walk t) (walk-at t) walk.Post walk-Inv-loop walk-μ-loop
 walk-same-length-5 t c = c .before .loop .inv .long

@@ -30,28 +30,41 @@ wide-requires : tie.Need-wide-requires Inv-loop μ-loop
 wide-requires c κs = search needs
 
 mul-marks : tie.Need-mul-marks Inv-loop μ-loop
-mul-marks c = let s = c .before .before .before .before .before .before in let b = s .pre .0 .marks (c .before .before .before .loop .p - 1) (omega arith) in omega (arith, b, c .wide .ensures, c .before .before .before .loop .inv .long, s .good .0)
+mul-marks c = let at-loop = c .before .before .before in
+    let s = at-loop .before .before .before in
+    let b = s .pre .0 .marks (at-loop .loop .p - 1) (omega arith) in omega (arith, b, c .wide .ensures, at-loop .loop .inv .long, s .good .0)
 
 add-marks : tie.Need-add-marks Inv-loop μ-loop
-add-marks c = let s = c .before .before .before .before .before .before in let b = s .pre .0 .marks (c .before .before .before .loop .p - 1) (omega arith) in omega (arith, b, c .wide .ensures, c .before .before .before .loop .inv .long, s .good .0)
+add-marks c = let at-loop = c .before .before .before in
+    let s = at-loop .before .before .before in
+    let b = s .pre .0 .marks (at-loop .loop .p - 1) (omega arith) in omega (arith, b, c .wide .ensures, at-loop .loop .inv .long, s .good .0)
 
 mul-marks-2 : tie.Need-mul-marks-2 Inv-loop μ-loop
-mul-marks-2 c = let s = c .before .before .before .before .before .before in let b = s .pre .0 .marks (c .before .before .before .loop .p - 1) (omega arith) in omega (arith, b, c .wide .ensures, c .before .before .before .loop .inv .long, s .good .0)
+mul-marks-2 c = let at-loop = c .before .before .before in
+    let s = at-loop .before .before .before in
+    let b = s .pre .0 .marks (at-loop .loop .p - 1) (omega arith) in omega (arith, b, c .wide .ensures, at-loop .loop .inv .long, s .good .0)
 
 slice-write-marks : tie.Need-slice-write-marks Inv-loop μ-loop
-slice-write-marks c = let s = c .before .before .before .before .before .before in let b = s .pre .0 .marks (c .before .before .before .loop .p - 1) (omega arith) in omega (arith, b, c .wide .ensures, c .before .before .before .loop .inv .long, s .good .0)
+slice-write-marks c = let at-loop = c .before .before .before in
+    let s = at-loop .before .before .before in
+    let b = s .pre .0 .marks (at-loop .loop .p - 1) (omega arith) in omega (arith, b, c .wide .ensures, at-loop .loop .inv .long, s .good .0)
 
 loop-less : tie.Need-loop-less Inv-loop μ-loop
 loop-less c = search needs
 
 loop-again : tie.Need-loop-again Inv-loop μ-loop
-loop-again c = let s = c .before .before .before .before .before .before in let l = c .before .before .before .loop in record { low = omega arith; high = omega arith; long = simp length-set (l .inv .long); steady = steady-more (l .inv .steady) (steady-set _ _ _); closes = closing-next (omega arith) (c .wide .ensures) (omega (arith, s .pre .0 .marks (l .p - 1) (omega arith), c .wide .ensures, l .inv .long)) (s .pre .1 .0) (s .pre .1 .1) (l .inv .closes) }
+loop-again c = let at-loop = c .before .before .before in
+    let s = at-loop .before .before .before in
+    let l = at-loop .loop in record { low = omega arith; high = omega arith; long = simp length-set (l .inv .long); steady = steady-more (l .inv .steady) (steady-set _ _ _); closes = closing-next (omega arith) (c .wide .ensures) (omega (arith, s .pre .0 .marks (l .p - 1) (omega arith), c .wide .ensures, l .inv .long)) (s .pre .1 .0) (s .pre .1 .1) (l .inv .closes) }
 
 same-length : tie.Need-same-length Inv-loop μ-loop
 same-length c = c .before .loop .inv .long
 
 returns : tie.Need-returns Inv-loop μ-loop
-returns c = let l = c .before .loop in let e : l .p ≡ c .before .before .before .before .args .from = omega (arith, c .loop-test .left, l .inv .low) in (l .inv .steady, λ n k. rw e at (l .inv .closes n k))
+returns c = let at-loop = c .before in
+    let at-args = at-loop .before .before .before in
+    let l = at-loop .loop in
+    let e : l .p ≡ at-args .args .from = omega (arith, c .loop-test .left, l .inv .low) in (l .inv .steady, λ n k. rw e at (l .inv .closes n k))
 
 pub close-spec : {M : Type 1} → statement M
 close-spec =

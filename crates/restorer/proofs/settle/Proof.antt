@@ -17,10 +17,13 @@ mark-ends-requires : tie.Need-mark-ends-requires Inv-loop μ-loop
 mark-ends-requires c κs = let s = c .before .before .before .before .before .before in (rows-fit (s .pre .0) (s .pre .1 .0), s .pre .0 .hashed .long)
 
 forget-requires : tie.Need-forget-requires Inv-loop μ-loop
-forget-requires c κs = omega (arith, c .before .before .before .before .before .before .before .before .before .before .pre .0 .hashed .long, c .before .before .before .mark-ends .kept .1 .0)
+forget-requires c κs = let at-mark-ends = c .before .before .before in
+    let at-pre = at-mark-ends .before .before .before .before .before .before .before in omega (arith, at-pre .pre .0 .hashed .long, at-mark-ends .mark-ends .kept .1 .0)
 
 loop-holds : tie.Need-loop-holds Inv-loop μ-loop
-loop-holds c = let s = c .before .before .before .before .before .before .before .before .before .before .before .before .before in settling-start (s .pre .0) (s .pre .1 .0) (s .pre .1 .1) (c .before .before .before .before .before .before .mark-ends .ensures) refl (c .before .before .forget .ensures)
+loop-holds c = let at-forget = c .before .before in
+    let at-mark-ends = at-forget .before .before .before .before in
+    let s = at-mark-ends .before .before .before .before .before .before .before in settling-start (s .pre .0) (s .pre .1 .0) (s .pre .1 .1) (at-mark-ends .mark-ends .ensures) refl (at-forget .forget .ensures)
 
 settle-rule-requires : tie.Need-settle-rule-requires Inv-loop μ-loop
 settle-rule-requires c κs = (c .before .before .before .loop .inv .searching, c .before .before .loop-test .taken)
@@ -32,10 +35,15 @@ loop-less : tie.Need-loop-less Inv-loop μ-loop
 loop-less c = omega (arith, c .before .before .before .before .before .before .before .loop-test .taken)
 
 loop-again : tie.Need-loop-again Inv-loop μ-loop
-loop-again c = let r = c .before .before .before .before .settle-rule in settling-next (c .before .before .before .before .before .before .before .before .loop .inv) (c .before .before .before .before .before .before .before .loop-test .taken) (r .ensures .0) (r .ensures .1 .0) (r .kept .1 .1 .1 .0) (r .kept .1 .1 .1 .1 .0) (r .ensures .1 .1)
+loop-again c = let at-settle-rule = c .before .before .before .before in
+    let at-loop-test = at-settle-rule .before .before .before in
+    let at-loop = at-loop-test .before in
+    let r = at-settle-rule .settle-rule in settling-next (at-loop .loop .inv) (at-loop-test .loop-test .taken) (r .ensures .0) (r .ensures .1 .0) (r .kept .1 .1 .1 .0) (r .kept .1 .1 .1 .1 .0) (r .ensures .1 .1)
 
 same-length : tie.Need-same-length Inv-loop μ-loop
-same-length c = c .before .loop .inv .long ∙ c .before .before .before .before .forget .kept .0 ∙ c .before .before .before .before .before .before .before .before .mark-ends .kept .1 .0
+same-length c = let at-loop = c .before in
+    let at-forget = at-loop .before .before .before in
+    let at-mark-ends = at-forget .before .before .before .before in at-loop .loop .inv .long ∙ at-forget .forget .kept .0 ∙ at-mark-ends .mark-ends .kept .1 .0
 
 same-length-2 : tie.Need-same-length-2 Inv-loop μ-loop
 same-length-2 c = c .before .loop .inv .longs

@@ -38,10 +38,15 @@ same-length-2 : tie.Need-same-length-2
 same-length-2 c = search needs
 
 returns-2 : tie.Need-returns-2
-returns-2 c = let s = c .before .before .before .before .before .before .before .before .before .before .before .before .before .before .before .before in let a = c .before .before .before .before .before .before .look in (a .ensures .0 .steady, (rule-empty (s .pre .0) (s .pre .1) (a .ensures .0) (a .ensures .1 .1) (c .enum-told .given .1) (a .ensures .1 .0), rule-no (s .pre .0) (s .pre .1) (a .ensures .0) (a .ensures .1 .1) (c .enum-told .given .1)))
+returns-2 c = let at-look = c .before .before .before .before .before .before in
+    let s = at-look .before .before .before .before .before .before .before .before .before .before in
+    let a = at-look .look in (a .ensures .0 .steady, (rule-empty (s .pre .0) (s .pre .1) (a .ensures .0) (a .ensures .1 .1) (c .enum-told .given .1) (a .ensures .1 .0), rule-no (s .pre .0) (s .pre .1) (a .ensures .0) (a .ensures .1 .1) (c .enum-told .given .1)))
 
 close-requires : tie.Need-close-requires
-close-requires c κs = let s = c .before .before .before .before .before .before .before .before .before .before .before .before .before .before .before .before .before .before .before in let a = c .before .before .before .before .before .before .before .before .before .look in (rule-within (s .pre .0) (s .pre .1) (a .ensures .0) (a .ensures .1 .1) (c .before .before .before .top .given .1) (a .kept .1 .1 .1 .0) (a .kept .1 .1 .1 .1 .0), (omega arith, omega arith))
+close-requires c κs = let at-top = c .before .before .before in
+    let at-look = at-top .before .before .before .before .before .before in
+    let s = at-look .before .before .before .before .before .before .before .before .before .before in
+    let a = at-look .look in (rule-within (s .pre .0) (s .pre .1) (a .ensures .0) (a .ensures .1 .1) (at-top .top .given .1) (a .kept .1 .1 .1 .0) (a .kept .1 .1 .1 .1 .0), (omega arith, omega arith))
 
 same-length-3 : tie.Need-same-length-3
 same-length-3 c = search needs
@@ -50,7 +55,12 @@ same-length-4 : tie.Need-same-length-4
 same-length-4 c = search needs
 
 returns-3 : tie.Need-returns-3
-returns-3 c = let s = c .before .before .before .before .before .before .before .before .before .before .before .before .before .before .before .before .before .before .before .before .before .before in let a = c .before .before .before .before .before .before .before .before .before .before .before .before .look in let d = c .before .before .close .ensures in (steady-more (a .ensures .0 .steady) (d .0), (rule-closed (s .pre .0) (s .pre .1) (a .ensures .0) (a .ensures .1 .1) (c .before .before .before .before .before .before .top .given .1) (d .1), rule-yes (s .pre .0) (s .pre .1) (a .ensures .0) (a .ensures .1 .1) (c .before .before .before .before .before .before .top .given .1) (d .1)))
+returns-3 c = let at-close = c .before .before in
+    let at-top = at-close .before .before .before .before in
+    let at-look = at-top .before .before .before .before .before .before in
+    let s = at-look .before .before .before .before .before .before .before .before .before .before in
+    let a = at-look .look in
+    let d = at-close .close .ensures in (steady-more (a .ensures .0 .steady) (d .0), (rule-closed (s .pre .0) (s .pre .1) (a .ensures .0) (a .ensures .1 .1) (at-top .top .given .1) (d .1), rule-yes (s .pre .0) (s .pre .1) (a .ensures .0) (a .ensures .1 .1) (at-top .top .given .1) (d .1)))
 
 pub settle-rule-spec : {M : Type 1} → statement M
 settle-rule-spec =

@@ -20,7 +20,10 @@ unset-requires : tie.Need-unset-requires
 unset-requires c κs = search needs
 
 returns-2 : tie.Need-returns-2
-returns-2 c = let s = c .before .before .before .before .before .before .before .before .before in λ e u r l a. restore-no _ _ (c .before .before .before .before .memory .ensures (c .before .before .if2 .taken)) (s .pre .1 .0) u l r a (c .before .unset .ensures (c .if3 .taken) r a)
+returns-2 c = let at-unset = c .before in
+    let at-if2 = at-unset .before in
+    let at-memory = at-if2 .before .before in
+    let s = at-memory .before .before .before .before .before in λ e u r l a. restore-no _ _ (at-memory .memory .ensures (at-if2 .if2 .taken)) (s .pre .1 .0) u l r a (at-unset .unset .ensures (c .if3 .taken) r a)
 
 alters-requires : tie.Need-alters-requires
 alters-requires c κs = let s = c .before .before .before .before .before .before .before in (known (s .pre .0) (s .pre .1 .0), s .pre .1 .1)
