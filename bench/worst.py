@@ -1,8 +1,9 @@
 #!/usr/bin/env python3
 """Hostile tables, in replay's format:  worst.py OUT_FOLDER [NAME[:PARAMETER=VALUE,..]..]
 
-Each is a family with parameters; without names, each family with its own values and with the further ones of MORE. Beside the tables the
-file `fits` gets a line for each: its name, and the bytes of its packed text. `bucket` is the one function of the index by last bytes."""
+Each is a family with parameters; without names, each family with its own values and with the further ones of MORE. With back=1, which every
+family of a Table takes, the rules stand in the other order. Beside the tables the file `fits` gets a line for each: its name, and the bytes
+of its packed text. `bucket` is the one function that knows the buckets of the index by last bytes."""
 import os
 import random
 import struct
@@ -32,6 +33,8 @@ def packed(data):
 
 class Table:
     """Rules are given by name and tree; a tree is its rows. Names and literals are bytes, or spans (offset, length) of a text given before."""
+
+    back = 0  # whether the rules stand in the other order
 
     def __init__(self, text=b""):
         self.rules, self.text, self.known = [], bytearray(text), {}
@@ -63,7 +66,8 @@ class Table:
         return ROWS - sum(rule[3] for rule in self.rules)
 
     def case(self):
-        return case([rule[:4] for rule in self.rules], [row for rule in self.rules for row in rule[4]], self.text)
+        rules = self.rules[::-1] if Table.back else self.rules
+        return case([rule[:4] for rule in rules], [row for rule in rules for row in rule[4]], self.text)
 
     def loop(self, items):
         """(!(i|..|i) ~ ANY)*, four rows more than the choice."""
@@ -429,7 +433,7 @@ def way_one_hash(d=12, way=175, idle=0, length=0):
 
 
 @family
-def way_one_bucket(d=12, way=175, idle=0, length=0):
+def way_one_bucket(d=11, way=242, idle=0, length=0):
     n = 1 + d + 1 + way + idle
     return doubling(Table(), one_old_bucket(n, length or long_enough(n, d, way), n), d, 0, way)
 
@@ -871,6 +875,11 @@ unroll_nested:kind=15,levels=10,x=2 unroll_nested:kind=16,x=1,y=2 unroll_nested:
 unroll_ones:kind=15 unroll_ones:kind=16,x=0,y=1 unroll_names:flip=1
 factor_chain:type_=0 factor_heads:differ=0 factor_heads:levels=8,leaf=128 factor_deep:type_=0 factor_pairs:alike_=1
 list_nested:differ=0 list_nested:levels=8,leaf=120
+names_steps:back=1 names_fit:back=1 names_fit_late:back=1 loop_steps:back=1 loop_steps:flip=1,back=1 kept:back=1 kept:flip=1,back=1
+kept:end=none,back=1 kept:loops=8,back=1 kept_full:back=1 kept_each:back=1 named:back=1 named:unknown=1,back=1 named:kind=9,back=1
+way_deep:back=1 way_deep:length=0,back=1 list_deep:back=1 list_deep:tops=2000,back=1 list_deep:d=1,tops=2000,back=1 list_loops:back=1
+list_loops:k=8,back=1 list_none:back=1 searches:kind=deep,length=5,back=1 ring:back=1 forward:back=1 backward:back=1 rings:back=1
+spread:back=1 hub:back=1 all_yes:back=1 unroll_names:back=1 loop_unknown:back=1
 strings:left_=1 strings:kind=1 turned:kind=8 high:last=0 high:gap=65 skip_rows:k=2 skip_rows:k=1
 """.split()
 
@@ -881,6 +890,7 @@ def build(word):
     for part in filter(None, rest.split(",")):
         key, value = part.split("=")
         values[key] = int(value) if value.lstrip("-").isdigit() else value
+    Table.back = values.pop("back", 0)
     return FAMILIES[name](**values)
 
 
