@@ -15,6 +15,7 @@ use Rattle.names.specs.Names.{NamesInside, Hashed}
 use Rattle.names.proofs.Finding.{hashed-moved}
 use Rattle.writing.specs.declared.Place.{Place}
 use Rattle.writing.specs.declared.Wrote.{Wrote}
+use Rattle.writing.specs.declared.Wrote.the-variants.{Done, Full}
 use Rattle.restorer.specs.Lends.{Marked}
 use Rattle.passes.specs.Passes.{stepOf, AsksAll, Lent, Holds, Front, TableFits, PassAnswer}
 use Rattle.turns.specs.Chain.{Turning, Works, Stands, Restorable, Owns, after, firstFive}
@@ -102,9 +103,9 @@ moved : (t : Table Span) (u : Table Bytes) {rules : List ℕ} {text : Bytes} {m 
 moved t u {rules} {text} {m} {n} {q} {os} {o} {s} c f e g d =
     let h = holds-part u n c f in
     subst (λ (x : List ℕ). Hashed x (take (q .text) s) m) (h .rules)
-        (hashed-moved t (packedFrom 0 u) (ap names (front-is u f) ∙ g)
-            (subst (λ (x : List ℕ). NamesInside x (length (take (q .text) s))) (sym (h .rules)) (h .names))
-            (subst (λ (x : List ℕ). Hashed x text m) (sym e) d))
+    (hashed-moved t (packedFrom 0 u) (ap names (front-is u f) ∙ g)
+    (subst (λ (x : List ℕ). NamesInside x (length (take (q .text) s))) (sym (h .rules)) (h .names))
+    (subst (λ (x : List ℕ). Hashed x text m) (sym e) d))
 
 pub moved-after : (step : ℕ) {n : ℕ} {p q : Place} {os o s os′ o′ s′ m : List ℕ} (k : Stands n p os o s) → Front q (after step (k .table) (k .table)) os′ o′ s′ → Hashed (take n os) (take (p .text) s) m → Hashed (take n os′) (take (q .text) s′) m
 moved-after step {n} k f d =
@@ -113,3 +114,8 @@ moved-after step {n} k f d =
 
 pub moved-five : (t : Table Span) {rules : List ℕ} {text : Bytes} {m : List ℕ} {q : Place} {os o s : List ℕ} → let u = lastOf (firstFive (resolveTable text t)) in length rules ≡ length u * 4 → Front q u os o s → ruleWords t ≡ rules → Hashed rules text m → Hashed (take (length rules) os) (take (q .text) s) m
 moved-five t {text = text} c f e d = moved t (lastOf (firstFive (resolveTable text t))) c f e (simp each-names) d
+
+-- of an area that a pass is lent only its length counts
+pub pass-lent : (a : Wrote) (t : Table Bytes) (os os₁ o s os′ o′ s′ : List ℕ) → length os₁ ≡ length os → PassAnswer a t os₁ o s os′ o′ s′ → PassAnswer a t os o s os′ o′ s′
+pass-lent (Done q) t os os₁ o s os′ o′ s′ e h = h
+pass-lent Full t os os₁ o s os′ o′ s′ e h = λ f. h (record { rules = omega (arith, f .rules, e); rows = f .rows; text = f .text })
