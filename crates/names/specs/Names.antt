@@ -93,6 +93,11 @@ pub record First (m : ℕ) (rules : List ℕ) (text key : Bytes) (i : ℕ) : Typ
   pub same : nameOf rules text i ≡ key
   pub first : (j : ℕ) → j < i → nameOf rules text j ≡ key → ⊥
 
+-- key is the name of a rule
+pub record IsName (rules : List ℕ) (text key : Bytes) : Type 0 where
+  pub rule : ℕ
+  pub is : First (length rules / 4) rules text key rule
+
 -- what a search for the name key among the first m rules finds
 abbrev pub Finds : ℕ → List ℕ → Bytes → Bytes → Found → Type 0
 Finds m rules text key (At i) = First m rules text key i

@@ -9,7 +9,7 @@ ghost use Rattle.grammar.specs.Lists.{ANY};
 ghost use Rattle.grammar.specs.Stack.{stackNames};
 ghost use Rattle.grammar.specs.Refusals as refusals;
 ghost use Rattle.rows.specs.Rows.{Tells};
-ghost use Rattle.names.specs.Names.{nameOf, rowsBefore, hashOf, marked, withEnds, headAt, withHead, withNext, NamesInside, Indexed, Hashed, Finds};
+ghost use Rattle.names.specs.Names.{nameOf, rowsBefore, hashOf, marked, withEnds, headAt, withHead, withNext, NamesInside, Indexed, Hashed, First, IsName, Finds};
 use rows::wide;
 
 // What a search by name finds.
@@ -197,6 +197,26 @@ pub fn find_rule(
 {
     let hash = hash_bytes(text2, x, n);
     find_below(rules, text, marks, rules.len() / 4, hash, text2, x, n)
+}
+
+// The first rule with the name of n bytes at x of another text, which is known to be a rule's.
+pub fn find_known(
+    rules: &[u32],
+    text: &[u8],
+    marks: &[u32],
+    text2: &[u8],
+    x: usize,
+    n: usize,
+) -> usize
+    requires { ⌜ Hashed (now rules) (now text) (now marks) ⌝ }
+    requires { ⌜ x + n ≤ length (now text2) ⌝ }
+    requires { ⌜ IsName (now rules) (now text) (bytesAt (now text2) (x, n)) ⌝ }
+    ensures { λ i. ⌜ First (length (now (rules .entry)) / 4) (now (rules .entry)) (now (text .entry)) (bytesAt (now (text2 .entry)) (x, n)) i ⌝ }
+{
+    let Found::At(i) = find_rule(rules, text, marks, text2, x, n) else {
+        return 0;
+    };
+    i
 }
 
 // Whether the n bytes at x are these.
