@@ -7,6 +7,7 @@ pub mod Settles
 pub mod Rotation
 pub mod Tables
 pub mod Spelling
+pub mod Ways
 pub mod Onward
 pub mod Skipping
 pub mod Quiets

@@ -5,7 +5,7 @@ use mathlib.Core.List.{List, [], _∷_}
 use mathlib.Core.Option.{Option, none, some}
 use Prim.Native.Nat.{ℕ, suc, _+_, _*_, _≤_}
 use lib.ListN.{length, getD}
-use lib.Dec.{eqb}
+use lib.Dec.{eqb, leb}
 use Rattle.grammar.specs.Basic.{Bytes, any, sameBytes}
 use Rattle.grammar.specs.Tree.{E, anyNode}
 use Rattle.grammar.specs.Rows.{Span}
@@ -30,6 +30,15 @@ stateAt m (some i) = getD m (i * 4 + 1) 0
 unfoldable pub marksOf : Table Bytes → List ℕ → Marks
 unfolding sameBytes
 marksOf t m x = stateAt m (indexFrom 0 t x)
+
+-- a memory from 3 on says that there is a list
+abbrev pub capped : ℕ → ℕ
+capped w = cond (leb 3 w) 3 w
+
+-- the same where lists are told so
+unfoldable pub listsOf : Table Bytes → List ℕ → Marks
+unfolding marksOf
+listsOf t m x = capped (marksOf t m x)
 
 -- the words are those of the table t
 pub record Lent (rules rows : List ℕ) (t : Table Span) : Type 0 where
