@@ -8,6 +8,7 @@ pub mod Rotation
 pub mod Tables
 pub mod Spelling
 pub mod Ways
+pub mod Words
 pub mod Onward
 pub mod Skipping
 pub mod Quiets

@@ -342,11 +342,7 @@ fn told(marks: &[u32], i: usize) -> usize
     ensures { λ k. ⌜ k ≡ toldAt (now (marks .entry)) i ⌝ }
 {
     let w = marks[i * 4 + 1];
-    if w >= LIST {
-        wide(w - LIST)
-    } else {
-        i
-    }
+    if w >= LIST { wide(w - LIST) } else { i }
 }
 
 // The rule that the expression of rule i names, where it is an Ident, else rule i.

@@ -31,8 +31,7 @@ pass-all-requires : tie.Need-pass-all-requires Inv-loop μ-loop
 pass-all-requires c κs =
     let inv = c .before .before .loop .inv in
     let s = c .before .before .before .before .before .before .before .before .before .before .before in
-    let g = s .pre in
-    (
+    let g = s .pre in (
       omega (arith, inv .0, inv .1 .long, c .before .before .before .before .before .tell-all .kept .1 .1 .1 .0, g .hashed .long),
       record { table = resolveTable (s .args .text .now) (g .table); long = omega (arith, inv .0, length-table (s .args .text .now) (g .table), count (g .table) (g .lent .heads)); targets = inv .1 .targets (g .table) (g .lent) },
     )
@@ -49,8 +48,7 @@ loop-less c = omega (arith, c .before .before .before .before .loop-test .taken,
 loop-again : tie.Need-loop-again Inv-loop μ-loop
 loop-again c =
     let inv = c .before .before .before .before .before .loop .inv in
-    let s = c .before .before .before .before .before .before .before .before .before .before .before .before .before .before in
-    (
+    let s = c .before .before .before .before .before .before .before .before .before .before .before .before .before .before in (
       inv .0,
       record {
         least = omega (arith, inv .1 .least);

@@ -35,8 +35,7 @@ loop-less c = omega (arith, c .before .before .before .before .loop-test .taken)
 -- src/lib.rt:391:5
 loop-again : tie.Need-loop-again Inv-loop μ-loop
 loop-again c =
-    let inv = c .before .before .before .before .before .loop .inv in
-    (
+    let inv = c .before .before .before .before .before .loop .inv in (
       inv .0,
       record {
         high = omega (arith, c .before .before .before .before .loop-test .taken, inv .0);
