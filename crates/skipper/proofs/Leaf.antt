@@ -1,12 +1,12 @@
 -- A reading of rows, arm by arm: a leaf, a rule, a Choice. Assumes nothing.
-use mathlib.Core.Path.{_≡_, refl, sym, ap, _∙_, subst}
+use mathlib.Core.Path.{_≡_, refl, sym, ap, _∙_}
 use mathlib.Core.List.{List, [], _∷_}
 use mathlib.Core.Option.{none, some}
 use Prim.Native.Nat.{ℕ, suc, _+_, _-_, _*_, _/_, _≤_, _<_}
 use native.Mathlib.Omega.{arith}
-use lib.ListN.{length, getD, set, getElem?, length-set}
+use lib.ListN.{length, getD, set}
 use Rattle.grammar.specs.Basic.{Bytes}
-use Rattle.grammar.specs.Tree.{Lit, Str, Insens, Ident, Seq, Choice, E, Expr, lit, fixed, skip, un, bin, size}
+use Rattle.grammar.specs.Tree.{Str, Insens, Ident, Seq, Choice, E, Expr, lit, fixed, skip, un, bin, size}
 use Rattle.grammar.specs.Rows.{Span}
 use Rattle.grammar.specs.Text.{bytesAt, resolve}
 use Rattle.grammar.specs.Table.{Table, ruleWords, resolveTable, find}
@@ -16,15 +16,14 @@ use Rattle.rows.specs.Rows.{At}
 use Rattle.rows.proofs.Laws.{Found, root, found-size, size-pos}
 use Rattle.rows.proofs.Cells.{lit-shape, bin-shape}
 use Rattle.rows.proofs.Views.{TwoView, as-lit, as-two, lit-is, two-is}
-use Rattle.names.specs.Names.{Hashed, Ended, First, Finds}
+use Rattle.names.specs.Names.{Ended, First, Finds}
 use Rattle.names.specs.declared.Found.{Found as Found′}
 use Rattle.names.specs.declared.Found.the-variants.{At as Sited, Nothing}
 use Rattle.names.proofs.Chains.{hashed-kept}
 use Rattle.names.proofs.Finding.{There, there, rule-count, rule-words, looked, not-found, body-at}
-use Rattle.skipper.specs.Memory.{Known, Reads}
-use Rattle.skipper.specs.Lends.{indexFrom, marksOf, capped, listsOf, Lent, Given, Steady, Ran, ReadsOf}
-use Rattle.skipper.proofs.Memories.{Monotone, left-mono, reads-plain, reads-marked, reads-unknown, reads-then, reads-stop, reads-rule}
-use Rattle.skipper.proofs.Rules.{zeros-set, steady-none, steady-more, steady-set, sets-mark, index-first, index-nothing}
+use Rattle.skipper.specs.Lends.{indexFrom, marksOf, capped, listsOf, Lent, Given, Steady, ReadsOf}
+use Rattle.skipper.proofs.Memories.{Monotone, reads-plain, reads-marked, reads-unknown, reads-then, reads-stop, reads-rule}
+use Rattle.skipper.proofs.Rules.{sets-mark, index-first, index-nothing}
 
 -- what is lent stays lent
 pub given-steady : {rules rows : List ℕ} {text : Bytes} {m m′ : List ℕ} → Given rules rows text m → Steady m m′ → length m′ ≡ length m → Given rules rows text m′

@@ -1,35 +1,35 @@
 -- Step 2, node by node: on trees, and of what was read and written. Assumes nothing.
-use mathlib.Core.Path.{_≡_, refl, sym, ap, ap₂, _∙_, subst}
+use mathlib.Core.Path.{_≡_, refl, sym, ap, _∙_}
 use mathlib.Core.Bool.{false≢true, Bool, true, false, _&&_, _||_}
 use mathlib.Core.List.{List, [], _∷_}
 use mathlib.Core.Option.{Option, none, some}
-use Prim.Native.Nat.{ℕ, zero, suc, _+_, _-_, _*_, _/_, _^_, _≤_, _<_}
+use Prim.Native.Nat.{ℕ, zero, suc, _+_, _-_, _/_, _^_, _≤_, _<_}
 use native.Mathlib.Omega.{arith}
 use borrow.Author.Tests.{ne-eqb}
 use lib.ListN.{length, getElem?}
 use Rattle.grammar.specs.Basic.{Bytes, _>>=_, any, orElse}
-use Rattle.grammar.specs.Tree.{E, Expr, lit, fixed, skip, un, bin, size, anyNode}
+use Rattle.grammar.specs.Tree.{E, Expr, lit, fixed, skip, un, bin, anyNode}
 use Rattle.grammar.specs.Rows.{Span, strRows}
 use Rattle.grammar.specs.Text.{resolve, joined, spans}
 use Rattle.grammar.specs.Table.{Table, Rule, resolveTable}
-use Rattle.grammar.specs.Lists.{Reading, nothing, strings, again, readIn, readName, loopOver, skipList, asStrings, isAgain}
+use Rattle.grammar.specs.Lists.{Reading, nothing, strings, again, readIn, loopOver, skipList, asStrings, isAgain}
 use Rattle.grammar.specs.Steps.{children, isAtomic, rotate, topDown, orSame, skip?, skipTo}
 use Rattle.grammar.proofs.Logic.{none-some, some-eq}
 use Rattle.grammar.proofs.TopDown.{skip-step}
 use Rattle.rows.specs.declared.Shape.{Shape}
 use Rattle.rows.specs.declared.Shape.the-variants.{Lit, Num, One, Two, Skips}
-use Rattle.rows.specs.Rows.{At, shapeOf, kindAt}
+use Rattle.rows.specs.Rows.{At, shapeOf}
 use Rattle.rows.proofs.Laws.{Found, root, headOf}
-use Rattle.rows.proofs.Views.{OneView, TwoView, as-one, as-two, shape-in, shapeIn, found-shape}
+use Rattle.rows.proofs.Views.{OneView, TwoView, as-one, as-two, shape-in, shapeIn}
 use Rattle.writing.specs.Writes.{Areas, Fits, Put, RowAnswer, StrsAnswer, Answer}
 use Rattle.writing.specs.declared.Place.{Place}
 use Rattle.writing.specs.declared.Wrote.{Wrote}
 use Rattle.writing.specs.declared.Wrote.the-variants.{Done, Full}
 use Rattle.writing.proofs.Puts.{put-done, put-full}
 use Rattle.writing.proofs.Trees.{skip-tree, fits-strs}
-use Rattle.skipper.specs.Memory.{markOf, nameList, byMarks, Known}
+use Rattle.skipper.specs.Memory.{markOf, byMarks, Known}
 use Rattle.skipper.specs.Lends.{listsOf, Lent}
-use Rattle.skipper.specs.Lists.{unreadIn, unreadAt, Lists}
+use Rattle.skipper.specs.Lists.{unreadAt, Lists}
 use Rattle.skipper.specs.Ways.{Spells}
 use Rattle.skipper.specs.Skips.{nodeBy, nodeOf, isList, ListAt, ListAnswer, Settles}
 use Rattle.skipper.specs.declared.Loop.{Loop}

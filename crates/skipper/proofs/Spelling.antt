@@ -2,14 +2,14 @@
 use mathlib.Core.Path.{_≡_, refl, sym, ap, _∙_}
 use mathlib.Core.Bool.{Bool, true, false, _&&_, cond}
 use mathlib.Core.List.{List, [], _∷_, _++_}
-use mathlib.Core.Option.{Option, none, some}
-use Prim.Native.Nat.{ℕ, zero, suc, _+_, _-_, _*_, _/_, _≤_, _<_}
+use mathlib.Core.Option.{none, some}
+use Prim.Native.Nat.{ℕ, zero, suc, _+_, _-_, _≤_}
 use native.Mathlib.Omega.{arith}
-use lib.ListN.{length, getD, length-append}
+use lib.ListN.{length, length-append}
 use lib.Dec.{eqb, leb}
 use borrow.Author.Tests.{leb-false, ne-eqb}
 use Rattle.grammar.specs.Basic.{Bytes, member}
-use Rattle.grammar.specs.Tree.{Lit, Str, Insens, Ident, Seq, Choice, Rep, E, Expr, lit, fixed, skip, un, bin}
+use Rattle.grammar.specs.Tree.{Str, Insens, Ident, Seq, Choice, Rep, E, Expr, lit, fixed, skip, un, bin}
 use Rattle.grammar.specs.Rows.{Span}
 use Rattle.grammar.specs.Text.{bytesAt, resolve, joined}
 use Rattle.grammar.specs.Table.{Table, find}
@@ -32,7 +32,7 @@ use Rattle.skipper.specs.Ways.{Spells}
 use Rattle.skipper.specs.Skips.{isList, ListAnswer}
 use Rattle.skipper.specs.declared.Loop.{Loop}
 use Rattle.skipper.specs.declared.Loop.the-variants.{Over, Nothing}
-use Rattle.skipper.proofs.Leaf.{choice-view, choice-left}
+use Rattle.skipper.proofs.Leaf.{choice-view}
 use Rattle.skipper.proofs.Settles.{loop-no-rep, rep-view, rep-is, loop-over}
 
 -- Whether there is a list

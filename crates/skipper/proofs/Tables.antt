@@ -9,7 +9,7 @@ use native.Mathlib.Omega.{arith}
 use borrow.Author.Tests.{eq-eqb, ne-eqb}
 use lib.ListN.{length, getD, getElem?}
 use Rattle.grammar.specs.Basic.{Bytes, any, sameBytes}
-use Rattle.grammar.specs.Tree.{E, Expr, lit, fixed, skip, un, bin, size, anyNode}
+use Rattle.grammar.specs.Tree.{E, lit, fixed, skip, un, bin, size, anyNode}
 use Rattle.grammar.specs.Rows.{Span}
 use Rattle.grammar.specs.Text.{resolve}
 use Rattle.grammar.specs.Table.{Table, Rule, resolveRule, resolveTable, find}
@@ -18,17 +18,15 @@ use Rattle.grammar.specs.Steps.{isAtomic}
 use Rattle.grammar.specs.Refusals.{meets}
 use Rattle.grammar.proofs.Logic.{none-some, some-eq, or-left, or-right}
 use Rattle.rows.specs.Rows.{At}
-use Rattle.rows.proofs.Laws.{root, size-pos}
-use Rattle.names.specs.Names.{marked, Hashed, Ended}
+use Rattle.names.specs.Names.{marked, Ended}
 use Rattle.names.proofs.Marks.{length-marked, marked-other, marked-at}
 use Rattle.names.proofs.Chains.{hashed-kept}
-use Rattle.names.proofs.Finding.{There, there, rule-words, inside-table}
-use Rattle.skipper.specs.Memory.{markOf, nameList, Marks, byMarks, Unfinished, Known, Grows}
+use Rattle.names.proofs.Finding.{There, rule-words, inside-table}
+use Rattle.skipper.specs.Memory.{markOf, nameList, Marks, byMarks, Known, Grows}
 use Rattle.skipper.specs.Lends.{indexFrom, stateAt, marksOf, listsOf, Lent, Given, Steady}
 use Rattle.skipper.specs.Loops.{TreeRows, openAt, ruleOpen, Idle, Settled, LoopsOf}
 use Rattle.skipper.specs.Ways.{Targets, Relisted}
-use Rattle.skipper.specs.Lists.{Lists, ReadAll, ListsAnswer}
-use Rattle.skipper.specs.declared.Readings.the-variants.{Read, Again}
+use Rattle.skipper.specs.Lists.{ReadAll}
 use Rattle.skipper.proofs.Memories.{Below, marks-below, marks-grow, grows-none, grows-more, name-none}
 use Rattle.skipper.proofs.Rules.{steady-none, steady-more}
 use Rattle.skipper.proofs.Leaf.{length-table, count, rule-there, rule-stands}

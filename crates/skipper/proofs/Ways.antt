@@ -7,7 +7,7 @@ use mathlib.Core.Logic.{_⊎_, inl, inr, ⊎-elim}
 use Prim.Native.Nat.{ℕ, zero, suc, _+_, _-_, _*_, _/_, _^_, _≤_, _<_}
 use native.Mathlib.Decide.{ℕ-discrete, decLe}
 use native.Mathlib.Omega.{arith}
-use borrow.Author.Tests.{le-leb, lt-leb, leb-true, leb-false}
+use borrow.Author.Tests.{le-leb, lt-leb, leb-true}
 use lib.ListN.{length, getD, set, getElem?}
 use lib.Seq.{getD-set-same, getD-set-other}
 use lib.Dec.{leb}
@@ -176,7 +176,7 @@ targets-kept {m} {i} {t} h g k = record { to = λ j b. go j b (ℕ-discrete j i)
     go j b (no c) = k .to j (omega arith)
 
 -- one that tells rule j
-pub targets-told : {m : List ℕ} {i j v : ℕ} {t : Table Bytes} → i * 4 + 1 < length m → v ≡ j + 3 → Gives t i j → TargetsOf i t m → TargetsOf (i + 1) t (set m (i * 4 + 1) v)
+pub targets-told : {m : List ℕ} {i j v : ℕ} {t : Table Bytes} → i * 4 + 1 < length m → v ≡ 3 + j → Gives t i j → TargetsOf i t m → TargetsOf (i + 1) t (set m (i * 4 + 1) v)
 targets-told {m} {i} {j} {v} {t} l e g k = let q : v - 3 ≡ j = omega arith in targets-set m i v l (omega arith) (rw q g) (λ o b c. k .to o (omega arith))
 
 -- one that tells what the rule that it told is told

@@ -2,7 +2,7 @@
 use mathlib.Core.Path.{_≡_}
 use mathlib.Core.Bool.{Bool, true, false}
 use mathlib.Core.List.{List}
-use mathlib.Core.Option.{Option, none, some}
+use mathlib.Core.Option.{some}
 use Prim.Native.Nat.{ℕ, _+_, _-_, _/_, _^_, _≤_, _<_}
 use lib.ListN.{length}
 use Rattle.grammar.specs.Basic.{Bytes}
@@ -72,7 +72,7 @@ pub record Spelled (rules rows : List ℕ) (u : Bytes) (w : List ℕ) (s : Bytes
 abbrev pub literalAt : List ℕ → Bytes → ℕ → Bytes
 literalAt w s i = bytesAt s (xAt w i, yAt w i)
 
--- the rules of some rows are lent, and their memories lead to strings
+-- the rules of some rows are lent so
 pub record Named (rules : List ℕ) (u : Bytes) (m : List ℕ) : Type 0 where
   pub rows : List ℕ
   pub led : Led rules rows u m

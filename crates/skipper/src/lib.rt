@@ -379,7 +379,7 @@ fn tell(rules: &[u32], rows: &[u32], text: &[u8], marks: &mut [u32], i: usize)
 {
     if marks[i * 4 + 1] >= LIST {
         let j = named_by(rules, rows, text, marks, i);
-        marks[i * 4 + 1] = (j + 3) as u32;
+        marks[i * 4 + 1] = LIST + j as u32;
     }
 }
 
@@ -397,7 +397,7 @@ fn tell_all(rules: &[u32], rows: &[u32], text: &[u8], marks: &mut [u32])
     }
 }
 
-// Tells rule i what the rule is told that it was told.
+// Rule i was told rule k: tells it what rule k was told.
 fn pass_on(marks: &mut [u32], i: usize)
     requires { ⌜ i * 4 + 1 < length (now marks) ⌝ }
     requires { ⌜ toldAt (now marks) i * 4 + 1 < length (now marks) ⌝ }
@@ -411,7 +411,7 @@ fn pass_on(marks: &mut [u32], i: usize)
     }
 }
 
-// The same of each of `count` rules: what is told spans twice as many steps as before, or has come to its end.
+// The same for each of `count` rules: each then spans at least twice as many steps of its way, or all.
 fn pass_all(marks: &mut [u32], count: usize)
     requires { ⌜ count * 4 ≤ length (now marks) ⌝ }
     requires { ⌜ Leading count (now marks) ⌝ }
@@ -425,7 +425,7 @@ fn pass_all(marks: &mut [u32], count: usize)
     }
 }
 
-// Tells every rule that has a list in which rule's expression its strings are read, past all rules that only name another.
+// Tells every rule that has a list in which rule's expression its strings are read, past rules that only name another.
 fn shorten(rules: &[u32], rows: &[u32], text: &[u8], marks: &mut [u32])
     requires { ⌜ Given (now rules) (now rows) (now text) (now marks) ⌝ }
     ensures { λ _. ⌜ Relisted (now (marks .entry)) (now (marks .exit)) ⌝ }

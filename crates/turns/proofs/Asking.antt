@@ -1,16 +1,14 @@
 -- What each step asks of the table that it is put on, met in the order of the chain. Assumes nothing.
 use mathlib.Core.Path.{_≡_, refl, sym, ap, ap₂, _∙_, subst}
 use mathlib.Core.Bool.{true≢false, Bool, true, false, _&&_, _||_, cond}
-use mathlib.Core.List.{List, [], _∷_, _++_}
+use mathlib.Core.List.{List, [], _∷_}
 use mathlib.Core.Option.{Option, none, some}
-use Prim.Native.Nat.{ℕ, zero, suc, _-_}
+use Prim.Native.Nat.{ℕ, zero, suc}
 use native.Mathlib.Omega.{arith}
-use lib.ListN.{length, drop}
-use lib.Seq.{drop-append-seam}
 use Rattle.grammar.specs.Basic.{Bytes, any, orElse}
-use Rattle.grammar.specs.Tree.{Bin, Seq, Choice, E, Expr, lit, fixed, skip, un, bin, size, anyNode}
-use Rattle.grammar.specs.Rows.{Span, flat}
-use Rattle.grammar.specs.Table.{Rule, Table, ruleWords, rowWords, tableText, packedFrom, resolveTable, wordsOf}
+use Rattle.grammar.specs.Tree.{Bin, Seq, Choice, E, lit, fixed, skip, un, bin, size, anyNode}
+use Rattle.grammar.specs.Rows.{Span}
+use Rattle.grammar.specs.Table.{Rule, Table, tableText, packedFrom, resolveTable, wordsOf}
 use Rattle.grammar.specs.Text.{resolve}
 use Rattle.grammar.specs.Lists.{skipList, loopOver, asStrings}
 use Rattle.grammar.specs.Steps.{children, topDownIn, orSame, isAtomic, rotated, rotateAt, rotate, skip?, skipTo, each}
@@ -18,9 +16,6 @@ use Rattle.grammar.specs.Refusals.{zeroUn, zeroCount, zeroCounts}
 use Rattle.grammar.specs.Optimize.{stages}
 use Rattle.grammar.proofs.Logic.{some-eq, bind-case}
 use Rattle.grammar.proofs.Packing.{table-resolved}
-use Rattle.grammar.proofs.TopDown.{size-pos}
-use Rattle.rows.specs.Rows.{At}
-use Rattle.rows.proofs.Views.{at-unique}
 use Rattle.skipper.proofs.Words.{same-words}
 use Rattle.skipper.specs.Memory.{byMarks}
 use Rattle.skipper.specs.Lends.{Given, listsOf}

@@ -1,15 +1,13 @@
 -- The strings of a list. The measure: the rules that may still be gone through, then the rows of the tree. The invariant of the loop: what is still to come gives the rest of the strings. Assumes nothing.
-use mathlib.Core.Path.{_≡_, refl, sym, _∙_}
-use Prim.Native.Nat.{_+_, _-_, _*_, _/_, _^_, _≤_}
+use mathlib.Core.Path.{refl, sym, _∙_}
+use Prim.Native.Nat.{ℕ, _+_, _*_, _^_, _<_}
 use native.Mathlib.Omega.{arith}
-use lib.ListN.{length}
 use Rattle.rows.specs.Rows.{sizeAt}
 use Rattle.rows.proofs.Laws.{root}
 use Rattle.skipper.proofs.Spelling.{spell-str, spell-ident, spell-name, name-fuel, str-wrote}
 use Rattle.skipper.proofs.Ways.{spells-known}
 use Rattle.skipper.proofs.Onward.{here, fork, fork-small, fork-less, Going, go-first, ahead, go-spelled, go-left, go-full, is-name, name-is, name-has, body-less, go-body, last-str}
 use borrow.Author.Needs.{needs}
-use Prim.Native.Nat.{ℕ, _<_}
 use borrow.Fn.Kinds.{In}
 use borrow.Fn.PlainCycle.{Measures, is, falls, and}
 use Rattle.skipper.proofs.write_leaf.Reads as write-leaf

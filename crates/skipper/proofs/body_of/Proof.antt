@@ -1,5 +1,4 @@
-use mathlib.Core.Path.{_≡_, refl, sym, ap, _∙_}
-use Prim.Native.Nat.{_+_, _-_, _*_, _/_, _≤_, _<_}
+use Prim.Native.Nat.{_/_, _<_}
 use native.Mathlib.Omega.{arith}
 use lib.ListN.{length}
 use Rattle.grammar.specs.Tree.{Ident}
@@ -13,11 +12,6 @@ use Rattle.skipper.proofs.Ways.{told-below, told-body}
 use borrow.Author.Needs.{needs}
 use Rattle.skipper.proofs.body_of.Statement.{statement}
 use Rattle.skipper.proofs.body_of.Tie as tie
-use Rattle.skipper.proofs.body_of.Reads as reads
-use Rattle.skipper.proofs.body_of.Lts as lts
-use Rattle.names.proofs.find_known.Reads as find-known-reads
-use Rattle.rows.proofs.wide.Reads as wide-reads
-use Rattle.skipper.proofs.told.Reads as told-reads
 
 -- the rule that was found, and the one that it is told
 rule : (c : tie.After-told) → let a = c .before .before .before .before .before .before .before .before .before .before .before .args in First (length (a .given-rules .now) / 4) (a .given-rules .now) (a .given-text .now) (literalAt (a .rows .now) (a .text .now) (a .root)) (c .before .find-known .result)

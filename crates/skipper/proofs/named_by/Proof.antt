@@ -1,10 +1,7 @@
-use mathlib.Core.Path.{_≡_, refl, sym, ap, _∙_}
-use Prim.Native.Nat.{ℕ, _+_, _-_, _*_, _/_, _^_, _≤_, _<_}
+use mathlib.Core.Path.{sym, _∙_}
+use Prim.Native.Nat.{_-_}
 use native.Mathlib.Omega.{arith}
-use lib.ListN.{length, getD, set}
 use Rattle.grammar.specs.Tree.{Ident}
-use Rattle.grammar.specs.Text.{bytesAt}
-use Rattle.names.specs.Names.{First}
 use Rattle.rows.proofs.Laws.{Found, row-found, root-there}
 use Rattle.rows.proofs.Cells.{in-text, lit-shape}
 use Rattle.skipper.proofs.Leaf.{finds-at, rule-there, rule-before, rule-end}
@@ -12,11 +9,6 @@ use Rattle.skipper.proofs.Ways.{rule-itself, rule-next}
 use borrow.Author.Needs.{needs}
 use Rattle.skipper.proofs.named_by.Statement.{statement}
 use Rattle.skipper.proofs.named_by.Tie as tie
-use Rattle.skipper.proofs.named_by.Reads as reads
-use Rattle.skipper.proofs.named_by.Lts as lts
-use Rattle.names.proofs.find_rule.Reads as find-rule-reads
-use Rattle.rows.proofs.row_at.Reads as row-at-reads
-use Rattle.rows.proofs.wide.Reads as wide-reads
 
 -- the row that was read
 here : (c : tie.After-known-told) → let k = c .before .kind .given .0 in Found (c .before .before .before .before .before .before .before .before .before .before .args .rows .now) (c .before .before .before .before .wide .result - 1) (k .0) (k .1 .0) (k .1 .1 .0) (k .1 .1 .1 .0)

@@ -1,13 +1,9 @@
-use mathlib.Core.Path.{_≡_, refl, sym, ap, _∙_}
-use Prim.Native.Nat.{ℕ, _+_, _-_, _*_, _/_, _^_, _≤_, _<_}
+use mathlib.Core.Path.{refl, _∙_}
+use Prim.Native.Nat.{_-_}
 use native.Mathlib.Omega.{arith}
-use lib.ListN.{length, getD, set}
 use Rattle.skipper.proofs.Ways.{Passing, relisted-none, relisted-more, leading-within, leading-on}
 use Rattle.skipper.proofs.pass_all.Statement.{statement}
 use Rattle.skipper.proofs.pass_all.Tie as tie
-use Rattle.skipper.proofs.pass_all.Reads as reads
-use Rattle.skipper.proofs.pass_all.Lts as lts
-use Rattle.skipper.proofs.pass_on.Reads as pass-on-reads
 
 abbrev Inv-loop : tie.InvT-loop
 Inv-loop marks₀ count i₀ marks i = Passing count marks₀ marks i

@@ -1,14 +1,8 @@
-use mathlib.Core.Path.{_≡_, refl, sym, ap, _∙_}
-use Prim.Native.Nat.{ℕ, _+_, _-_, _*_, _/_, _^_, _≤_, _<_}
-use native.Mathlib.Omega.{arith}
-use lib.ListN.{length, getD, set}
+use mathlib.Core.Path.{refl}
 use Rattle.skipper.proofs.Ways.{passed-relisted, passed-targets}
 use borrow.Author.Needs.{needs}
 use Rattle.skipper.proofs.pass_on.Statement.{statement}
 use Rattle.skipper.proofs.pass_on.Tie as tie
-use Rattle.skipper.proofs.pass_on.Reads as reads
-use Rattle.skipper.proofs.pass_on.Lts as lts
-use Rattle.skipper.proofs.told.Reads as told-reads
 
 -- src/lib.rt:404:9
 told-requires : tie.Need-told-requires

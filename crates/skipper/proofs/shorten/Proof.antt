@@ -1,16 +1,12 @@
-use mathlib.Core.Path.{_≡_, refl, sym, ap, _∙_}
-use Prim.Native.Nat.{ℕ, _+_, _-_, _*_, _/_, _^_, _≤_, _<_}
+use mathlib.Core.Path.{_≡_, refl, sym, _∙_}
+use Prim.Native.Nat.{_-_, _/_}
 use native.Mathlib.Omega.{arith}
-use lib.ListN.{length, getD, set}
+use lib.ListN.{length}
 use Rattle.grammar.specs.Table.{resolveTable}
 use Rattle.skipper.proofs.Leaf.{length-table, count}
 use Rattle.skipper.proofs.Ways.{Shortening, relisted-none, relisted-more}
 use Rattle.skipper.proofs.shorten.Statement.{statement}
 use Rattle.skipper.proofs.shorten.Tie as tie
-use Rattle.skipper.proofs.shorten.Reads as reads
-use Rattle.skipper.proofs.shorten.Lts as lts
-use Rattle.skipper.proofs.pass_all.Reads as pass-all-reads
-use Rattle.skipper.proofs.tell_all.Reads as tell-all-reads
 
 abbrev Inv-loop : tie.InvT-loop
 Inv-loop rules rows text marks₀ count steps₀ marks steps = (count ≡ length rules / 4) × Shortening rules rows text marks₀ marks steps

@@ -1,16 +1,13 @@
 use Rattle.grammar.specs.Table.{resolveTable}
-use mathlib.Core.Path.{_≡_, refl, sym, ap, _∙_}
-use Prim.Native.Nat.{ℕ, _+_, _-_, _*_, _/_, _^_, _≤_, _<_}
+use mathlib.Core.Path.{refl}
+use Prim.Native.Nat.{_+_, _*_, _<_}
 use native.Mathlib.Omega.{arith}
-use lib.ListN.{length, getD, set}
+use lib.ListN.{length}
 use Rattle.skipper.proofs.Leaf.{length-table, count}
 use Rattle.skipper.proofs.Ways.{few, gives-within, rule-itself, relisted-none, relisted-set, targets-kept, targets-told}
 use borrow.Author.Needs.{needs}
 use Rattle.skipper.proofs.tell.Statement.{statement}
 use Rattle.skipper.proofs.tell.Tie as tie
-use Rattle.skipper.proofs.tell.Reads as reads
-use Rattle.skipper.proofs.tell.Lts as lts
-use Rattle.skipper.proofs.named_by.Reads as named-by-reads
 
 -- the numbers of rules are small
 small : (c : tie.After-named-by) → c .named-by .result < 65536
@@ -44,13 +41,13 @@ slice-read-if1 c = search needs
 named-by-requires : tie.Need-named-by-requires
 named-by-requires c κs = search needs
 
--- src/lib.rt:379:29
-add-marks : tie.Need-add-marks
-add-marks c = omega (arith, small c)
-
 -- src/lib.rt:379:28
 cast-marks : tie.Need-cast-marks
 cast-marks c = omega (arith, small c)
+
+-- src/lib.rt:379:29
+add-marks : tie.Need-add-marks
+add-marks c = omega (arith, small c)
 
 -- src/lib.rt:379:15
 mul-marks : tie.Need-mul-marks
@@ -89,8 +86,8 @@ tell-spec =
     mul-if1-2
     slice-read-if1
     named-by-requires
-    add-marks
     cast-marks
+    add-marks
     mul-marks
     add-marks-2
     mul-marks-2

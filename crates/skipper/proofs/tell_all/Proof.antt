@@ -1,14 +1,11 @@
-use mathlib.Core.Path.{_≡_, refl, sym, ap, _∙_}
-use Prim.Native.Nat.{ℕ, _+_, _-_, _*_, _/_, _^_, _≤_, _<_}
+use mathlib.Core.Path.{_≡_, refl, _∙_}
+use Prim.Native.Nat.{_-_, _/_}
 use native.Mathlib.Omega.{arith}
-use lib.ListN.{length, getD, set}
+use lib.ListN.{length}
 use Rattle.skipper.proofs.Leaf.{given-steady, length-table, count}
 use Rattle.skipper.proofs.Ways.{Telling, relisted-none, relisted-more}
 use Rattle.skipper.proofs.tell_all.Statement.{statement}
 use Rattle.skipper.proofs.tell_all.Tie as tie
-use Rattle.skipper.proofs.tell_all.Reads as reads
-use Rattle.skipper.proofs.tell_all.Lts as lts
-use Rattle.skipper.proofs.tell.Reads as tell-reads
 
 abbrev Inv-loop : tie.InvT-loop
 Inv-loop rules rows text marks₀ count i₀ marks i = (count ≡ length rules / 4) × Telling rules rows text marks₀ marks i

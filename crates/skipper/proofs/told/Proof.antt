@@ -1,14 +1,8 @@
-use mathlib.Core.Path.{_≡_, refl, sym, ap, _∙_}
-use Prim.Native.Nat.{ℕ, _+_, _-_, _*_, _/_, _^_, _≤_, _<_}
-use native.Mathlib.Omega.{arith}
-use lib.ListN.{length, getD, set}
+use mathlib.Core.Path.{sym, _∙_}
 use Rattle.skipper.proofs.Ways.{told-list, told-self}
 use borrow.Author.Needs.{needs}
 use Rattle.skipper.proofs.told.Statement.{statement}
 use Rattle.skipper.proofs.told.Tie as tie
-use Rattle.skipper.proofs.told.Reads as reads
-use Rattle.skipper.proofs.told.Lts as lts
-use Rattle.rows.proofs.wide.Reads as wide-reads
 
 -- src/lib.rt:344:19
 mul-w : tie.Need-mul-w
