@@ -370,31 +370,37 @@ fn named_by(rules: &[u32], rows: &[u32], text: &[u8], marks: &[u32], i: usize) -
     j
 }
 
-// Tells rule i, if it has a list, which rule it names.
-fn tell(rules: &[u32], rows: &[u32], text: &[u8], marks: &mut [u32], i: usize)
+// Tells rule i, if it has a list, which rule it names. Whether that is another.
+fn tell(rules: &[u32], rows: &[u32], text: &[u8], marks: &mut [u32], i: usize) -> bool
     requires { ⌜ Given (now rules) (now rows) (now text) (now marks) ⌝ }
     requires { ⌜ i < length (now rules) / 4 ⌝ }
     ensures { λ _. ⌜ Relisted (now (marks .entry)) (now (marks .exit)) ⌝ }
     ensures { λ _. ⌜ ((t : Table Span) → Lent (now (rules .entry)) (now (rows .entry)) t → TargetsOf i (resolveTable (now (text .entry)) t) (now (marks .entry)) → TargetsOf (i + 1) (resolveTable (now (text .entry)) t) (now (marks .exit))) ⌝ }
 {
-    if marks[i * 4 + 1] >= LIST {
-        let j = named_by(rules, rows, text, marks, i);
-        marks[i * 4 + 1] = LIST + j as u32;
+    if marks[i * 4 + 1] < LIST {
+        return false;
     }
+    let j = named_by(rules, rows, text, marks, i);
+    marks[i * 4 + 1] = LIST + j as u32;
+    j != i
 }
 
-// Tells every rule that has a list which rule it names.
-fn tell_all(rules: &[u32], rows: &[u32], text: &[u8], marks: &mut [u32])
+// Tells every rule that has a list which rule it names. Whether one of them names another.
+fn tell_all(rules: &[u32], rows: &[u32], text: &[u8], marks: &mut [u32]) -> bool
     requires { ⌜ Given (now rules) (now rows) (now text) (now marks) ⌝ }
     ensures { λ _. ⌜ Relisted (now (marks .entry)) (now (marks .exit)) ⌝ }
     ensures { λ _. ⌜ ((t : Table Span) → Lent (now (rules .entry)) (now (rows .entry)) t → Targets (resolveTable (now (text .entry)) t) (now (marks .exit))) ⌝ }
 {
     let count = rules.len() / 4;
+    let mut others = false;
     let mut i = 0;
     while i < count {
-        tell(rules, rows, text, marks, i);
+        if tell(rules, rows, text, marks, i) {
+            others = true;
+        }
         i += 1;
     }
+    others
 }
 
 // Rule i was told rule k: tells it what rule k was told.
@@ -432,7 +438,10 @@ fn shorten(rules: &[u32], rows: &[u32], text: &[u8], marks: &mut [u32])
     ensures { λ _. ⌜ ((t : Table Span) → Lent (now (rules .entry)) (now (rows .entry)) t → Targets (resolveTable (now (text .entry)) t) (now (marks .exit))) ⌝ }
 {
     let count = rules.len() / 4;
-    tell_all(rules, rows, text, marks);
+    // most tables have no way to shorten
+    if !tell_all(rules, rows, text, marks) {
+        return;
+    }
     let mut steps = 1;
     while steps < count {
         pass_all(marks, count);

@@ -37,6 +37,9 @@ mul-if1-2 c = search needs
 slice-read-if1 : tie.Need-slice-read-if1
 slice-read-if1 c = search needs
 
+returns : tie.Need-returns
+returns c = let s = c .before .before .before .before .before .before in (relisted-none _, λ t l h. targets-kept (c .if1 .taken) (rule-itself l (s .args .text .now) (s .pre .1)) h)
+
 -- src/lib.rt:378:13
 named-by-requires : tie.Need-named-by-requires
 named-by-requires c κs = search needs
@@ -69,13 +72,8 @@ slice-write-marks c = search needs
 same-length : tie.Need-same-length
 same-length c = search needs
 
--- src/lib.rt:371:1
-returns : tie.Need-returns
-returns c = let s = c .before .before .before .before .before .before .before .before in (relisted-set _ _ _ (inside c) (omega arith) (c .before .before .if1 .taken), λ t l h. targets-told (inside c) refl (c .named-by .ensures t l) h)
-
--- src/lib.rt:371:1
 returns-2 : tie.Need-returns-2
-returns-2 c = let s = c .before .before .before .before .before .before in (relisted-none _, λ t l h. targets-kept (c .if1 .left) (rule-itself l (s .args .text .now) (s .pre .1)) h)
+returns-2 c = (relisted-set _ _ _ (inside c) (omega arith) (c .before .before .if1 .left), λ t l h. targets-told (inside c) refl (c .named-by .ensures t l) h)
 
 pub tell-spec : {M : Type 1} → statement M
 tell-spec =
@@ -85,6 +83,7 @@ tell-spec =
     add-if1
     mul-if1-2
     slice-read-if1
+    returns
     named-by-requires
     cast-marks
     add-marks
@@ -93,5 +92,4 @@ tell-spec =
     mul-marks-2
     slice-write-marks
     same-length
-    returns
     returns-2)

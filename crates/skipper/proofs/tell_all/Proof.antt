@@ -8,10 +8,10 @@ use Rattle.skipper.proofs.tell_all.Statement.{statement}
 use Rattle.skipper.proofs.tell_all.Tie as tie
 
 abbrev Inv-loop : tie.InvT-loop
-Inv-loop rules rows text marks₀ count i₀ marks i = (count ≡ length rules / 4) × Telling rules rows text marks₀ marks i
+Inv-loop rules rows text marks₀ count others₀ i₀ marks others i = (count ≡ length rules / 4) × Telling rules rows text marks₀ marks i
 
 abbrev μ-loop : tie.MeasureT-loop
-μ-loop rules rows text marks₀ count i₀ marks i = count - i
+μ-loop rules rows text marks₀ count others₀ i₀ marks others i = count - i
 
 -- src/lib.rt:391:5
 loop-holds : tie.Need-loop-holds Inv-loop μ-loop
@@ -23,22 +23,22 @@ tell-requires c κs = let inv = c .before .before .loop .inv in (given-steady (c
 
 -- src/lib.rt:393:9
 add-i : tie.Need-add-i Inv-loop μ-loop
-add-i c = omega (arith, c .before .before .before .before .loop-test .taken)
+add-i c = omega (arith, c .before .before .before .before .before .loop-test .taken)
 
 -- src/lib.rt:391:5
 loop-less : tie.Need-loop-less Inv-loop μ-loop
-loop-less c = omega (arith, c .before .before .before .before .loop-test .taken)
+loop-less c = omega (arith, c .before .before .before .before .before .loop-test .taken)
 
 -- src/lib.rt:391:5
 loop-again : tie.Need-loop-again Inv-loop μ-loop
 loop-again c =
-    let inv = c .before .before .before .before .before .loop .inv in (
+    let inv = c .before .before .before .before .before .before .loop .inv in (
       inv .0,
       record {
-        high = omega (arith, c .before .before .before .before .loop-test .taken, inv .0);
-        long = c .before .before .tell .kept .1 .1 .1 .0 ∙ inv .1 .long;
-        relisted = relisted-more (inv .1 .relisted) (c .before .before .tell .ensures .0);
-        targets = λ t l. c .before .before .tell .ensures .1 t l (inv .1 .targets t l);
+        high = omega (arith, c .before .before .before .before .before .loop-test .taken, inv .0);
+        long = c .before .before .before .tell .kept .1 .1 .1 .0 ∙ inv .1 .long;
+        relisted = relisted-more (inv .1 .relisted) (c .before .before .before .tell .ensures .0);
+        targets = λ t l. c .before .before .before .tell .ensures .1 t l (inv .1 .targets t l);
       },
     )
 
