@@ -16,7 +16,7 @@ use Rattle.grammar.proofs.Logic.{none-some, some-eq, eq-sameBytes, sameBytes-eq
 use Rattle.rows.specs.Rows as rows
 use Rattle.rows.proofs.Laws.{length-flat, size-pos}
 use Rattle.names.specs.Names.{nameOf, rowsBefore, NamesInside, Hashed, First, Finds}
-use Rattle.names.proofs.Chains.{hashed-named}
+use Rattle.names.proofs.Index.{hashed-named}
 use Rattle.names.specs.declared.Found.{Found}
 use Rattle.names.specs.declared.Found.the-variants.{At, Nothing}
 

@@ -13,7 +13,7 @@ use Rattle.grammar.specs.Table.{Rule, Table, ruleWords, resolveTable}
 use Rattle.grammar.specs.Refusals.{reserved, repeated, names, badNames}
 use Rattle.grammar.proofs.Logic.{eq-sameBytes, none-some, some-eq}
 use Rattle.names.specs.Names.{nameOf, Hashed, Twice}
-use Rattle.names.proofs.Chains.{names-apart}
+use Rattle.names.proofs.Index.{names-apart}
 use Rattle.names.proofs.Finding.{differ, There, there, inside-table, name-is, rule-count}
 use Rattle.refusals.specs.Bytes.{NameFree, NamesFine}
 use Rattle.refusals.proofs.Fours.{neither-left, neither-right}

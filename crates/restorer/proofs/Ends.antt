@@ -13,7 +13,7 @@ use Rattle.rows.proofs.Laws.{size-pos}
 use Rattle.names.specs.Names.{rowsBefore, marked, withEnds}
 use Rattle.names.proofs.Finding.{rule-count, rows-before-all, length-rows}
 use Rattle.names.proofs.Marks.{length-marked, marked-other, marked-at, ended}
-use Rattle.names.proofs.Chains.{hashed-ends}
+use Rattle.names.proofs.Index.{hashed-ends}
 use Rattle.restorer.specs.Search.{stateOf, Right, RuleSettled}
 use Rattle.restorer.specs.Lends.{Lent, Marked, Given, Steady, Settles}
 use Rattle.restorer.specs.Stacks.{Stacked, Searching}

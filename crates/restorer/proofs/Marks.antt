@@ -16,7 +16,7 @@ use Rattle.grammar.proofs.Logic.{eqb-eq}
 use Rattle.rows.specs.Rows.{At}
 use Rattle.rows.proofs.Laws.{root, size-pos}
 use Rattle.names.specs.Names.{Ended}
-use Rattle.names.proofs.Chains.{hashed-kept}
+use Rattle.names.proofs.Index.{hashed-kept}
 use Rattle.names.proofs.Finding.{There, there, rule-count, rule-words, body-at}
 use Rattle.restorer.specs.Search.{stateOf}
 use Rattle.restorer.specs.Lends.{Lent, Given, Steady, TreeRows}

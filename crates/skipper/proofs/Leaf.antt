@@ -19,7 +19,7 @@ use Rattle.rows.proofs.Views.{TwoView, as-lit, as-two, lit-is, two-is}
 use Rattle.names.specs.Names.{Ended, First, Finds}
 use Rattle.names.specs.declared.Found.{Found as Found′}
 use Rattle.names.specs.declared.Found.the-variants.{At as Sited, Nothing}
-use Rattle.names.proofs.Chains.{hashed-kept}
+use Rattle.names.proofs.Index.{hashed-kept}
 use Rattle.names.proofs.Finding.{There, there, rule-count, rule-words, looked, not-found, body-at}
 use Rattle.skipper.specs.Lends.{indexFrom, marksOf, capped, listsOf, Lent, Given, Steady, ReadsOf}
 use Rattle.skipper.proofs.Memories.{Monotone, reads-plain, reads-marked, reads-unknown, reads-then, reads-stop, reads-rule}

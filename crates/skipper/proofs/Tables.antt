@@ -20,7 +20,7 @@ use Rattle.grammar.proofs.Logic.{none-some, some-eq, or-left, or-right}
 use Rattle.rows.specs.Rows.{At}
 use Rattle.names.specs.Names.{marked, Ended}
 use Rattle.names.proofs.Marks.{length-marked, marked-other, marked-at}
-use Rattle.names.proofs.Chains.{hashed-kept}
+use Rattle.names.proofs.Index.{hashed-kept}
 use Rattle.names.proofs.Finding.{There, rule-words, inside-table}
 use Rattle.skipper.specs.Memory.{markOf, nameList, Marks, byMarks, Known, Grows}
 use Rattle.skipper.specs.Lends.{indexFrom, stateAt, marksOf, listsOf, Lent, Given, Steady}

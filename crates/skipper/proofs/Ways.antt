@@ -147,14 +147,6 @@ module _ (m : List ℕ) (i v : ℕ) (l : i * 4 + 1 < length m) (h : 3 ≤ v) whe
       go j b (yes e) = rw (e, getD-set-same m (i * 4 + 1) v 0 l, told-list v i h) g
       go j b (no c) = rw (getD-set-other m (i * 4 + 1) (j * 4 + 1) v 0 (λ e. c (omega arith))) (k j b c)
 
--- the numbers of rules are small: the last of a chain has their count for its next
-pub few : {rules : List ℕ} {text : Bytes} {m : List ℕ} → Hashed rules text m → ((i : ℕ) → getD m i 0 < 2 ^ 32) → length rules / 4 < 65536
-few {rules} {m = m} h b = go (length rules / 4) refl
-  where
-    go : (n : ℕ) → length rules / 4 ≡ n → n < 65536
-    go zero e = omega arith
-    go (suc k) e = let x = h .linked .next k (omega arith) (omega arith) in omega (arith, x .low, b (k * 4 + 2))
-
 -- rule i of a lent table
 module _ {rules rows : List ℕ} {t : Table Span} (l : Lent rules rows t) (s : Bytes) {i : ℕ} (b : i < length rules / 4) where
   pub rule-itself : Gives (resolveTable s t) i i

@@ -1,14 +1,14 @@
 -- A step on a packed table that looks into that table alone, and its marks. Assumes nothing.
 use mathlib.Core.Path.{_≡_, refl, sym, ap, subst, _∙_}
-use mathlib.Core.List.{List, [], _∷_}
+use mathlib.Core.List.{List}
 use Prim.Native.Nat.{ℕ, _*_, _≤_}
 use native.Mathlib.Omega.{arith}
 use lib.ListN.{length, take}
 use Rattle.grammar.specs.Basic.{Bytes}
 use Rattle.grammar.specs.Rows.{Span}
-use Rattle.grammar.specs.Tree.{E}
 use Rattle.grammar.specs.Table.{Table, ruleWords, packedFrom, resolveTable, tableText}
 use Rattle.grammar.specs.Refusals.{names}
+use Rattle.grammar.proofs.TopDown.{each-names}
 use Rattle.grammar.specs.Optimize.{lastOf}
 use Rattle.grammar.specs.Steps.{each}
 use Rattle.names.specs.Names.{NamesInside, Hashed}
@@ -92,10 +92,6 @@ pub stands-after : (step : ℕ) {n : ℕ} {p q : Place} {os o s os′ o′ s′ 
 stands-after step {n} k f = record { table = after step (k .table) (k .table); front = f; count = count-after step n (k .table) (k .table) (k .count) }
 
 -- ---- no step changes a name
-
-each-names : (f : ℕ → E → E) (t : Table Bytes) → names (each f t) ≡ names t
-each-names f [] = refl
-each-names f (r ∷ t) = ap (λ (l : List Bytes). r .name ∷ l) (each-names f t)
 
 -- the index of a table's names is that of a packed table with these names
 moved : (t : Table Span) (u : Table Bytes) {rules : List ℕ} {text : Bytes} {m : List ℕ} {n : ℕ} {q : Place} {os o s : List ℕ} → n ≡ length u * 4 → Front q u os o s → ruleWords t ≡ rules → names u ≡ names (resolveTable text t)

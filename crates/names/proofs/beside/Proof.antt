@@ -5,7 +5,7 @@ use native.Mathlib.Omega.{arith}
 use lib.ListN.{length, getD}
 use Rattle.grammar.specs.Text.{bytesAt}
 use mathlib.Core.Bool.{true≢false}
-use Rattle.names.proofs.Chains.{ends-inside, told-same, told-below, told-apart}
+use Rattle.names.proofs.Index.{ends-inside, told-same, told-below, told-apart}
 use borrow.Author.Needs.{needs}
 use Rattle.names.proofs.beside.Statement.{statement}
 use Rattle.names.proofs.beside.Tie as tie

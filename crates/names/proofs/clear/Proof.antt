@@ -1,6 +1,6 @@
 use borrow.Author.Needs.{needs}
 use native.Mathlib.Omega.{arith}
-use Rattle.names.proofs.Chains.{cleared}
+use Rattle.names.proofs.Index.{cleared}
 use borrow.Author.Needs.{needs}
 use Rattle.names.proofs.clear.Statement.{statement}
 use Rattle.names.proofs.clear.Tie as tie

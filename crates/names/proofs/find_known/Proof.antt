@@ -4,7 +4,7 @@ use borrow.Author.Needs.{needs}
 use native.Mathlib.Omega.{arith}
 use lib.ListN.{length, getD}
 use Rattle.grammar.specs.Text.{bytesAt}
-use Rattle.names.proofs.Chains.{ends-inside, found-known}
+use Rattle.names.proofs.Index.{ends-inside, found-known}
 use borrow.Author.Needs.{needs}
 use Rattle.names.proofs.find_known.Statement.{statement}
 use Rattle.names.proofs.find_known.Tie as tie

@@ -5,7 +5,7 @@ use native.Mathlib.Omega.{arith}
 use lib.ListN.{length, getD}
 use Rattle.grammar.specs.Text.{bytesAt}
 use Rattle.rows.proofs.Cells.{tells-yes, tells-no}
-use Rattle.names.proofs.Chains.{ends-inside, found, nothing}
+use Rattle.names.proofs.Index.{ends-inside, found, nothing}
 use borrow.Author.Needs.{needs}
 use Rattle.names.proofs.find_rule.Statement.{statement}
 use Rattle.names.proofs.find_rule.Tie as tie

@@ -1,4 +1,4 @@
-use Rattle.names.proofs.Chains.{forked-is}
+use Rattle.names.proofs.Index.{forked-is}
 use Prim.Native.Nat.{_+_, _*_}
 use borrow.Author.Needs.{needs}
 use native.Mathlib.Omega.{arith}

@@ -1,4 +1,4 @@
-use Rattle.names.proofs.Chains.{goes-same, goes-other}
+use Rattle.names.proofs.Index.{goes-same, goes-other}
 use borrow.Author.Needs.{needs}
 use native.Mathlib.Omega.{arith}
 use borrow.Author.Needs.{needs}

@@ -1,6 +1,6 @@
 use borrow.Author.Needs.{needs}
 use native.Mathlib.Omega.{arith}
-use Rattle.names.proofs.Chains.{half-low, half-high}
+use Rattle.names.proofs.Index.{half-low, half-high}
 use borrow.Author.Needs.{needs}
 use Rattle.names.proofs.half.Statement.{statement}
 use Rattle.names.proofs.half.Tie as tie

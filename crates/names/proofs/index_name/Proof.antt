@@ -4,7 +4,7 @@ use borrow.Author.Needs.{needs}
 use native.Mathlib.Omega.{arith}
 use lib.ListN.{length, getD}
 use mathlib.Core.Bool.{true≢false}
-use Rattle.names.proofs.Chains.{ends-inside, ends-named, index-first}
+use Rattle.names.proofs.Index.{ends-inside, ends-named, index-first}
 use borrow.Author.Needs.{needs}
 use Rattle.names.proofs.index_name.Statement.{statement}
 use Rattle.names.proofs.index_name.Tie as tie

@@ -6,7 +6,7 @@ use lib.ListN.{length, getD}
 use Rattle.names.specs.Names.{Indexed}
 use borrow.Author.Tests.{not-true, not-false}
 use mathlib.Core.Bool.{true≢false}
-use Rattle.names.proofs.Chains.{indexed-all}
+use Rattle.names.proofs.Index.{indexed-all}
 use Rattle.names.proofs.index_names.Statement.{statement}
 use Rattle.names.proofs.index_names.Tie as tie
 

@@ -1,6 +1,6 @@
 use borrow.Author.Needs.{needs}
 use native.Mathlib.Omega.{arith}
-use Rattle.names.proofs.Chains.{set-is}
+use Rattle.names.proofs.Index.{set-is}
 use borrow.Author.Needs.{needs}
 use Rattle.names.proofs.set_half.Statement.{statement}
 use Rattle.names.proofs.set_half.Tie as tie

@@ -5,7 +5,7 @@ use native.Mathlib.Omega.{arith}
 use lib.ListN.{length, getD}
 use Rattle.grammar.specs.Text.{bytesAt}
 use Rattle.names.specs.Names.{nameOf, bucketOf, halfAt, Way, Indexed}
-use Rattle.names.proofs.Chains.{stepsLeft, way-start, node-there, next-slot, next-way, next-less}
+use Rattle.names.proofs.Index.{stepsLeft, way-start, node-there, next-slot, next-way, next-less}
 use Rattle.names.proofs.slot_of.Statement.{statement}
 use Rattle.names.proofs.slot_of.Tie as tie
 

@@ -4,7 +4,7 @@ use borrow.Author.Tests.{not-true, not-false}
 use Rattle.rows.proofs.Cells.{tells-yes, tells-no}
 use Rattle.names.specs.Names.{Hashed, Ended}
 use Rattle.names.proofs.Marks.{ended}
-use Rattle.names.proofs.Chains.{hashed-ends}
+use Rattle.names.proofs.Index.{hashed-ends}
 use Rattle.refusals.proofs.Apart.{indexed-fine, twice-not}
 use borrow.Author.Needs.{needs}
 use borrow.Author.Needs.{needs}

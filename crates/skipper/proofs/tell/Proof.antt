@@ -4,7 +4,7 @@ use Prim.Native.Nat.{_+_, _*_, _<_}
 use native.Mathlib.Omega.{arith}
 use lib.ListN.{length}
 use Rattle.skipper.proofs.Leaf.{length-table, count}
-use Rattle.skipper.proofs.Ways.{few, gives-within, rule-itself, relisted-none, relisted-set, targets-kept, targets-told}
+use Rattle.skipper.proofs.Ways.{gives-within, rule-itself, relisted-none, relisted-set, targets-kept, targets-told}
 use borrow.Author.Needs.{needs}
 use Rattle.skipper.proofs.tell.Statement.{statement}
 use Rattle.skipper.proofs.tell.Tie as tie
@@ -16,7 +16,7 @@ small c =
     let g = s .pre .0 in
     let n = c .named-by .ensures (g .table) (g .lent) in
     let w : c .named-by .result < length (resolveTable (s .args .text .now) (g .table)) = gives-within n in
-    omega (arith, few (g .hashed) (λ i. omega (arith, c .before .before .before .slice-known2 .given i)), length-table (s .args .text .now) (g .table), count (g .table) (g .lent .heads))
+    omega (arith, g .hashed .indexed .few, length-table (s .args .text .now) (g .table), count (g .table) (g .lent .heads))
 
 inside : (c : tie.After-named-by) → let s = c .before .before .before .before .before .before .before .before in s .args .i * 4 + 1 < length (s .args .marks .now)
 inside c = let s = c .before .before .before .before .before .before .before .before in omega (arith, s .pre .1, s .pre .0 .hashed .long)
