@@ -13,6 +13,8 @@ use lib.ListN.{length, getD, set, drop, length-set}
 use lib.Seq.{getD-set-same, getD-set-other}
 use Rattle.grammar.specs.Basic.{Bytes}
 use Rattle.grammar.specs.Text.{bytesAt}
+use Rattle.rows.specs.Rows.{Tells}
+use Rattle.rows.proofs.Cells.{tells-yes, tells-no}
 use Rattle.names.specs.Names.{nameOf, rowsBefore, hashFrom, bucketOf, halfAt, withHalf, symbolAt, onward, marked, withEnds, NamesInside, Slot, Way, stay, step, Ends, Leads, Shaped, Indexed, Walkable, Hashed, Twice, ApartAnswer, First}
 use Rattle.names.specs.declared.Apart.{Apart}
 use Rattle.names.specs.declared.Apart.the-variants.{Position, Nowhere}
@@ -120,16 +122,16 @@ module _ (name : ℕ → Bytes) (m : List ℕ) (key : Bytes) (k : ℕ) where
       go false = record { slot = record { inside = omega arith; word = omega arith; place = omega arith }; node = omega arith; low = λ e. omega arith }
 
 -- the same of what was read
-module _ (rules : List ℕ) (text : Bytes) (m : List ℕ) (key : Bytes) (k : ℕ) {d o l a b : ℕ} (hd : d ≡ halfAt m (k * 8)) (ho : o ≡ getD rules (k * 4) 0) (hl : l ≡ getD rules (k * 4 + 1) 0)
-    (ha : a ≡ symbolAt (bytesAt text (o, l)) d) (hb : b ≡ symbolAt key d) where
-  symbols : (a ≡ symbolAt (nameOf rules text k) (halfAt m (k * 8))) × (b ≡ symbolAt key (halfAt m (k * 8)))
-  symbols = (rw (hd, ho, hl) at ha, rw hd at hb)
+module _ (rules : List ℕ) (text : Bytes) (m : List ℕ) (key : Bytes) (k : ℕ) {d o l : ℕ} (b : Bool) (hd : d ≡ halfAt m (k * 8)) (ho : o ≡ getD rules (k * 4) 0) (hl : l ≡ getD rules (k * 4 + 1) 0)
+    (t : Tells b (symbolAt (bytesAt text (o, l)) d ≡ symbolAt key d)) where
+  told-symbols : Tells b (symbolAt (nameOf rules text k) (halfAt m (k * 8)) ≡ symbolAt key (halfAt m (k * 8)))
+  told-symbols = rw (hd, ho, hl) at t
 
-  pub goes-same : a ≡ b → k * 8 + 5 ≡ onward (nameOf rules text) m key k
-  goes-same e = onward-same (nameOf rules text) m key k (sym (symbols .0) ∙ e ∙ symbols .1)
+  pub goes-same : b ≡ true → k * 8 + 5 ≡ onward (nameOf rules text) m key k
+  goes-same e = onward-same (nameOf rules text) m key k (tells-yes e told-symbols)
 
-  pub goes-other : (a ≡ b → ⊥) → k * 8 + 4 ≡ onward (nameOf rules text) m key k
-  goes-other e = onward-other (nameOf rules text) m key k (λ q. e (symbols .0 ∙ q ∙ sym (symbols .1)))
+  pub goes-other : b ≡ false → k * 8 + 4 ≡ onward (nameOf rules text) m key k
+  goes-other e = onward-other (nameOf rules text) m key k (tells-no e told-symbols)
 
 module _ {n k : ℕ} {name : ℕ → Bytes} {m : List ℕ} {key : Bytes} where
   -- one node more
@@ -223,9 +225,6 @@ module _ {rules : List ℕ} {text : Bytes} {m : List ℕ} {key : Bytes} {t r : �
   module _ {u : ℕ} (e : u ≡ onward (nameOf rules text) m key (r - length rules / 4)) where
     under : Walkable rules text m → Under (length rules / 4) (r - length rules / 4) u
     under h = rw e (onward-under (nameOf rules text) m key (r - length rules / 4) (length rules / 4) (node-there h))
-
-    pub next-slot : Walkable rules text m → u / 2 < length m
-    next-slot h = omega (arith, under h .slot .inside, h .indexed .long)
 
     pub next-way : (k : ℕ) → Indexed k rules text m → Way (length rules / 4) k (nameOf rules text) m key (bucketOf (length rules / 4) key * 8 + 1) u
     next-way k h = rw e (way-more (r - length rules / 4) (w k h) (omega arith) (omega arith) (node-below k h))

@@ -7,7 +7,8 @@ use native.Mathlib.Nat.{add-zero}
 use native.Mathlib.Numerals.{add-one}
 use native.Mathlib.Decide.{ℕ-discrete}
 use native.Mathlib.Omega.{arith}
-use borrow.Author.Tests.{lt-ltb, le-ltb}
+use borrow.Author.Tests.{lt-ltb, le-ltb, eqb-true, eqb-false, leb-true, leb-false}
+use lib.Dec.{eqb, leb}
 use lib.ListN.{length, getD, set, drop, length-set, length-take, length-drop}
 use lib.Seq.{drop-cons, ext-getD, getD-take, getD-drop, take-all, getD-set-same, getD-set-other}
 use Rattle.grammar.specs.Basic.{Bytes, sameBytes}
@@ -61,6 +62,25 @@ symbol-in t x n d l h = rw (lt-ltb d (length (bytesAt t (x, n))) (omega (arith, 
 pub symbol-out : (t : Bytes) (x n d : ℕ) → x + n ≤ length t → n ≤ d → 0 ≡ symbolAt (bytesAt t (x, n)) d
 unfolding symbolAt
 symbol-out t x n d l h = rw (le-ltb d (length (bytesAt t (x, n))) (omega (arith, length-part t x n l)))
+
+-- whether two names have the same at a position: by their bytes, or by where they end
+module _ (t : Bytes) (x n : ℕ) (u : Bytes) (y m d : ℕ) (h : x + n ≤ length t) (k : y + m ≤ length u) where
+  pub both-in : d < n → d < m → Tells (eqb (getD t (x + d) 0) (getD u (y + d) 0)) (symbolAt (bytesAt t (x, n)) d ≡ symbolAt (bytesAt u (y, m)) d)
+  both-in a b = go (eqb (getD t (x + d) 0) (getD u (y + d) 0)) refl
+    where
+      go : (r : Bool) → eqb (getD t (x + d) 0) (getD u (y + d) 0) ≡ r → Tells r (symbolAt (bytesAt t (x, n)) d ≡ symbolAt (bytesAt u (y, m)) d)
+      go true e = sym (symbol-in t x n d h a) ∙ ap suc (eqb-true _ _ e) ∙ symbol-in u y m d k b
+      go false e = λ q. let p = symbol-in t x n d h a in let r = symbol-in u y m d k b in let z : getD t (x + d) 0 ≡ getD u (y + d) 0 = omega arith in eqb-false _ _ e z
+
+  pub one-in : d < n → m ≤ d → symbolAt (bytesAt t (x, n)) d ≡ symbolAt (bytesAt u (y, m)) d → ⊥
+  one-in a b q = let p = symbol-in t x n d h a in let r = symbol-out u y m d k b in omega arith
+
+  pub none-in : n ≤ d → Tells (leb m d) (symbolAt (bytesAt t (x, n)) d ≡ symbolAt (bytesAt u (y, m)) d)
+  none-in a = go (leb m d) refl
+    where
+      go : (r : Bool) → leb m d ≡ r → Tells r (symbolAt (bytesAt t (x, n)) d ≡ symbolAt (bytesAt u (y, m)) d)
+      go true e = sym (symbol-out t x n d h a) ∙ symbol-out u y m d k (leb-true m d e)
+      go false e = λ q. let p = symbol-out t x n d h a in let r = symbol-in u y m d k (leb-false m d e) in omega arith
 
 -- names of two lengths differ where the shorter ends
 pub shorter-apart : (t : Bytes) (x n y m : ℕ) → x + n ≤ length t → y + m ≤ length t → n < m → symbolAt (bytesAt t (x, n)) n ≡ symbolAt (bytesAt t (y, m)) n → ⊥

@@ -21,6 +21,12 @@ pub enum Found {
     Nothing,
 }
 
+// A slot of the index, and what it holds.
+struct Spot {
+    slot: usize,
+    holds: usize,
+}
+
 // Where two names differ.
 enum Apart {
     Position(usize),
@@ -120,15 +126,21 @@ fn set_half(marks: &mut [u32], h: usize, v: usize)
     marks[at] = with_half(marks[at], h, v);
 }
 
-// What the name of n bytes at x has at position d.
-fn symbol(text: &[u8], x: usize, n: usize, d: usize) -> usize
-    requires { ⌜ x + n ≤ length (now text) ⌝ }
-    ensures { λ r. ⌜ r ≡ symbolAt (bytesAt (now (text .entry)) (x, n)) d ⌝ }
+// Whether two names, of n bytes at x and of m bytes at y, have the same at position d.
+fn same_symbol(text1: &[u8], x: usize, n: usize, text2: &[u8], y: usize, m: usize, d: usize) -> bool
+    requires { ⌜ (x + n ≤ length (now text1)) × (y + m ≤ length (now text2)) ⌝ }
+    ensures { λ r. ⌜ Tells r (symbolAt (bytesAt (now (text1 .entry)) (x, n)) d ≡ symbolAt (bytesAt (now (text2 .entry)) (y, m)) d) ⌝ }
 {
-    if d < n { byte(text[x + d]) + 1 } else { 0 }
+    if d < n {
+        if d < m {
+            return text1[x + d] == text2[y + d];
+        }
+        return false;
+    }
+    m <= d
 }
 
-// The slot that the name of n bytes at x of another text goes on with at node k.
+// The slot that the name of n bytes at x of another text goes on with at node k, and what it holds.
 fn go_on(
     rules: &[u32],
     text: &[u8],
@@ -137,37 +149,50 @@ fn go_on(
     text2: &[u8],
     x: usize,
     n: usize,
-) -> usize
+) -> Spot
     requires { ⌜ NamesInside (now rules) (length (now text)) ⌝ }
     requires { ⌜ (k < length (now rules) / 4) × (length (now rules) / 4 * 4 ≤ length (now marks)) ⌝ }
     requires { ⌜ x + n ≤ length (now text2) ⌝ }
-    ensures { λ s. ⌜ s ≡ onward (nameOf (now (rules .entry)) (now (text .entry))) (now (marks .entry)) (bytesAt (now (text2 .entry)) (x, n)) k ⌝ }
+    ensures { λ s. ⌜ (s .slot ≡ onward (nameOf (now (rules .entry)) (now (text .entry))) (now (marks .entry)) (bytesAt (now (text2 .entry)) (x, n)) k) × (s .holds ≡ halfAt (now (marks .entry)) (s .slot)) ⌝ }
 {
     let at = k * 4;
     let d = half(marks, k * 8);
-    if symbol(text, wide(rules[at]), wide(rules[at + 1]), d) == symbol(text2, x, n, d) {
-        k * 8 + 5
-    } else {
-        k * 8 + 4
+    if same_symbol(text, wide(rules[at]), wide(rules[at + 1]), text2, x, n, d) {
+        let slot = k * 8 + 5;
+        return Spot {
+            slot: slot,
+            holds: half(marks, slot),
+        };
+    }
+    let slot = k * 8 + 4;
+    Spot {
+        slot: slot,
+        holds: half(marks, slot),
     }
 }
 
-// The slot at which the way of the name of n bytes at x of another text ends.
-fn slot_of(rules: &[u32], text: &[u8], marks: &[u32], text2: &[u8], x: usize, n: usize) -> usize
+// Where the way of the name of n bytes at x of another text ends.
+fn spot_of(rules: &[u32], text: &[u8], marks: &[u32], text2: &[u8], x: usize, n: usize) -> Spot
     requires { ⌜ NamesInside (now rules) (length (now text)) ⌝ }
     requires { ⌜ Walkable (now rules) (now text) (now marks) ⌝ }
     requires { ⌜ 0 < length (now rules) / 4 ⌝ }
     requires { ⌜ x + n ≤ length (now text2) ⌝ }
-    ensures { λ s. ⌜ ((k : ℕ) → Indexed k (now (rules .entry)) (now (text .entry)) (now (marks .entry)) → Ends (length (now (rules .entry)) / 4) k (nameOf (now (rules .entry)) (now (text .entry))) (now (marks .entry)) (bytesAt (now (text2 .entry)) (x, n)) s) ⌝ }
+    ensures { λ s. ⌜ s .holds ≡ halfAt (now (marks .entry)) (s .slot) ⌝ }
+    ensures { λ s. ⌜ ((k : ℕ) → Indexed k (now (rules .entry)) (now (text .entry)) (now (marks .entry)) → Ends (length (now (rules .entry)) / 4) k (nameOf (now (rules .entry)) (now (text .entry))) (now (marks .entry)) (bytesAt (now (text2 .entry)) (x, n)) (s .slot)) ⌝ }
 {
     let count = rules.len() / 4;
-    let mut slot = bucket_of(text2, x, n, count) * 8 + 1;
-    let mut r = half(marks, slot);
-    while count < r {
-        slot = go_on(rules, text, marks, r - count, text2, x, n);
-        r = half(marks, slot);
+    let start = bucket_of(text2, x, n, count) * 8 + 1;
+    let mut slot = start;
+    let mut holds = half(marks, start);
+    while count < holds {
+        let s = go_on(rules, text, marks, holds - count, text2, x, n);
+        slot = s.slot;
+        holds = s.holds;
     }
-    slot
+    Spot {
+        slot: slot,
+        holds: holds,
+    }
 }
 
 // Where two names of n and m bytes at x and y differ. Where their lengths do, no byte is looked at.
@@ -235,7 +260,7 @@ fn index_name(rules: &[u32], text: &[u8], marks: &mut [u32], i: usize) -> bool
     ensures { λ b. ⌜ IndexAnswer b (i + 1) (now (rules .entry)) (now (text .entry)) (now (marks .exit)) ⌝ }
 {
     let at = i * 4;
-    let slot = slot_of(
+    let s = spot_of(
         rules,
         text,
         marks,
@@ -243,7 +268,8 @@ fn index_name(rules: &[u32], text: &[u8], marks: &mut [u32], i: usize) -> bool
         wide(rules[at]),
         wide(rules[at + 1]),
     );
-    let j = half(marks, slot);
+    let slot = s.slot;
+    let j = s.holds;
     if j < rules.len() / 4 {
         return beside(rules, text, marks, slot, i, j);
     }
@@ -341,7 +367,7 @@ pub fn find_rule(
     if count == 0 {
         return Found::Nothing;
     }
-    let i = half(marks, slot_of(rules, text, marks, text2, x, n));
+    let i = spot_of(rules, text, marks, text2, x, n).holds;
     if i == count {
         return Found::Nothing;
     }
@@ -366,7 +392,7 @@ pub fn find_known(
     requires { ⌜ IsName (now rules) (now text) (bytesAt (now text2) (x, n)) ⌝ }
     ensures { λ i. ⌜ First (length (now (rules .entry)) / 4) (now (rules .entry)) (now (text .entry)) (bytesAt (now (text2 .entry)) (x, n)) i ⌝ }
 {
-    half(marks, slot_of(rules, text, marks, text2, x, n))
+    spot_of(rules, text, marks, text2, x, n).holds
 }
 
 // Whether the n bytes at x are these.

@@ -1,9 +1,6 @@
-use mathlib.Core.Path.{_≡_, refl, sym, ap, ap₂, subst, _∙_}
-use Prim.Native.Nat.{ℕ, suc, _+_, _-_, _*_, _/_, _≤_, _<_}
+use mathlib.Core.Bool.{true≢false}
 use borrow.Author.Needs.{needs}
 use native.Mathlib.Omega.{arith}
-use lib.ListN.{length, getD}
-use mathlib.Core.Bool.{true≢false}
 use Rattle.names.proofs.Index.{ends-inside, ends-named, index-first}
 use borrow.Author.Needs.{needs}
 use Rattle.names.proofs.index_name.Statement.{statement}
@@ -33,14 +30,11 @@ shared-slice-read-wide-2 c = search needs
 wide-requires-2 : tie.Need-wide-requires-2
 wide-requires-2 c κs = search needs
 
-slot-of-requires : tie.Need-slot-of-requires
-slot-of-requires c κs = let s = c .before .before .before .before .before .before .before .before in (s .pre .0, (record { upTo = s .args .i; indexed = s .pre .1 .1 }, (omega (arith, s .pre .1 .0 .0), omega (arith, s .pre .0 (s .args .i) (s .pre .1 .0 .0), c .before .before .wide .ensures, c .wide2 .ensures))))
-
-half-requires : tie.Need-half-requires
-half-requires c κs = let s = c .before .before .before .before .before .before .before .before .before .before in ends-inside (omega (arith, s .pre .1 .0 .0)) (s .pre .1 .1) (c .before .slot-of .ensures (s .args .i) (s .pre .1 .1))
+spot-of-requires : tie.Need-spot-of-requires
+spot-of-requires c κs = let s = c .before .before .before .before .before .before .before .before in (s .pre .0, (record { upTo = s .args .i; indexed = s .pre .1 .1 }, (omega (arith, s .pre .1 .0 .0), omega (arith, s .pre .0 (s .args .i) (s .pre .1 .0 .0), c .before .before .wide .ensures, c .wide2 .ensures))))
 
 beside-requires : tie.Need-beside-requires
-beside-requires c κs = let t = c .before .before .before .before in let s = t .before .before .before .before .before .before .before .before .before in (s .pre .0, (s .pre .1 .0, (s .pre .1 .1, (ends-named (s .args .rules .now) (s .args .text .now) (s .args .marks .now) (s .args .i) (s .args .i) _ (t .before .before .before .wide .ensures) (t .before .wide2 .ensures) (t .slot-of .ensures (s .args .i) (s .pre .1 .1)), (c .before .before .half .ensures .0, c .before .if1 .taken)))))
+beside-requires c κs = let t = c .before .before in let s = t .before .before .before .before .before .before .before .before .before in (s .pre .0, (s .pre .1 .0, (s .pre .1 .1, (ends-named (s .args .rules .now) (s .args .text .now) (s .args .marks .now) (s .args .i) (s .args .i) _ (t .before .before .before .wide .ensures) (t .before .wide2 .ensures) (t .spot-of .ensures .1 (s .args .i) (s .pre .1 .1)), (t .spot-of .ensures .0, c .before .if1 .taken)))))
 
 same-length : tie.Need-same-length
 same-length c = search needs
@@ -49,13 +43,13 @@ returns : tie.Need-returns
 returns c = c .before .before .beside .ensures
 
 set-half-requires : tie.Need-set-half-requires
-set-half-requires c κs = let t = c .before .before .before .before in let s = t .before .before .before .before .before .before .before .before .before in (ends-inside (omega (arith, s .pre .1 .0 .0)) (s .pre .1 .1) (t .slot-of .ensures (s .args .i) (s .pre .1 .1)), omega (arith, s .pre .1 .0 .0, s .pre .1 .1 .few))
+set-half-requires c κs = let t = c .before .before in let s = t .before .before .before .before .before .before .before .before .before in (ends-inside (omega (arith, s .pre .1 .0 .0)) (s .pre .1 .1) (t .spot-of .ensures .1 (s .args .i) (s .pre .1 .1)), omega (arith, s .pre .1 .0 .0, s .pre .1 .1 .few))
 
 same-length-2 : tie.Need-same-length-2
 same-length-2 c = search needs
 
 returns-2 : tie.Need-returns-2
-returns-2 c = let t = c .before .before .before .before .before .before .before in let s = t .before .before .before .before .before .before .before .before .before in record { yes = λ _. index-first (s .pre .1 .1) (s .pre .1 .0 .0) (ends-named (s .args .rules .now) (s .args .text .now) (s .args .marks .now) (s .args .i) (s .args .i) _ (t .before .before .before .wide .ensures) (t .before .wide2 .ensures) (t .slot-of .ensures (s .args .i) (s .pre .1 .1))) (omega (arith, c .before .before .before .before .before .half .ensures .0, c .before .before .before .before .if1 .left, t .slot-of .ensures (s .args .i) (s .pre .1 .1) .last)) (c .before .before .set-half .ensures); no = λ e. absurd (true≢false e) }
+returns-2 c = let t = c .before .before .before .before .before in let s = t .before .before .before .before .before .before .before .before .before in record { yes = λ _. index-first (s .pre .1 .1) (s .pre .1 .0 .0) (ends-named (s .args .rules .now) (s .args .text .now) (s .args .marks .now) (s .args .i) (s .args .i) _ (t .before .before .before .wide .ensures) (t .before .wide2 .ensures) (t .spot-of .ensures .1 (s .args .i) (s .pre .1 .1))) (omega (arith, t .spot-of .ensures .0, c .before .before .before .before .if1 .left, t .spot-of .ensures .1 (s .args .i) (s .pre .1 .1) .last)) (c .before .before .set-half .ensures); no = λ e. absurd (true≢false e) }
 
 pub index-name-spec : {M : Type 1} → statement M
 index-name-spec =
@@ -69,8 +63,7 @@ index-name-spec =
     mul-wide-2
     shared-slice-read-wide-2
     wide-requires-2
-    slot-of-requires
-    half-requires
+    spot-of-requires
     beside-requires
     same-length
     returns
