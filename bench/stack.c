@@ -6,7 +6,7 @@
 #include <string.h>
 #include <sys/mman.h>
 
-#define STACK ((size_t)64 << 20)
+#define STACK ((size_t)8 << 20)
 static uint32_t counts[4], rules[ARVEDUN_RULE_WORDS], rows[ARVEDUN_ROW_WORDS];
 static uint8_t text[ARVEDUN_TEXT_BYTES];
 static uint32_t work_rules[3][ARVEDUN_RULE_WORDS], work_rows[3][ARVEDUN_ROW_WORDS], marks[ARVEDUN_MARK_WORDS];

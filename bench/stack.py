@@ -4,8 +4,13 @@ import os
 import struct
 import sys
 
-STR, IDENT, POS, NEG, SEQ, CHOICE, OPT, REP, REP_EXACT, PUSH = 0, 3, 6, 7, 8, 9, 10, 11, 13, 18
+STR, RANGE, IDENT, POS, NEG, SEQ, CHOICE, OPT, REP, EXACT, PUSH = 0, 2, 3, 6, 7, 8, 9, 10, 11, 13, 18
 NORMAL, ATOMIC, COMPOUND = 0, 2, 3
+ROWS, RULES = 4096, 256
+TEXT = b"rabANY"
+A, B, X, Y, ANY = (STR, 1, 1, 1), (STR, 2, 1, 1), (IDENT, 1, 1, 1), (IDENT, 2, 1, 1), (IDENT, 3, 3, 1)
+LEAVES = {"str": (A, B), "range": ((RANGE, 97, 98, 1), (RANGE, 98, 99, 1)), "id": (X, Y)}
+KINDS = {"seq": (SEQ,), "choice": (CHOICE,), "both": (SEQ, CHOICE)}
 
 
 def case(rules, rows, text):
@@ -14,68 +19,89 @@ def case(rules, rows, text):
     return head + b"".join(struct.pack("<%dI" % len(w), *w) for w in words) + text
 
 
+def one(kind, a, x=0):
+    return a + [(kind, x, 0, len(a) + 1)]
+
+
+def two(kind, a, b):
+    return a + b + [(kind, 0, 0, len(a) + len(b) + 1)]
+
+
 def sole(rows, type_):
-    return case([(0, 1, type_, len(rows))], rows, b"rabANY")
+    assert len(rows) <= ROWS
+    return case([(0, 1, type_, len(rows))], rows, TEXT)
 
 
-def leaf(i):
-    return (STR, 1 + i % 2, 1, 1)
+def grow(rows, n, kinds, leaves, side):
+    """n rows of two children over a tree, which is on the left, on the right, or on each by turns."""
+    before, after, size = [], [], len(rows)
+    for i in range(n):
+        leaf, kind = leaves[i % len(leaves)], kinds[i % len(kinds)]
+        size += 2
+        if side == "left" or side == "turns" and i % 2:
+            after.append(leaf)
+        else:
+            before.append(leaf)
+        after.append((kind, 0, 0, size))
+    return before[::-1] + rows + after
 
 
-def nested(kinds, type_, bottom=None):
-    rows = list(bottom or [leaf(0)])
-    for k in kinds:
-        rows.append((k, 0, 0, len(rows) + 1))
-    return sole(rows, type_)
+def filled(bottom, kinds, leaves, side, top=0):
+    """As many rows over `bottom` as there is room for, `top` rows left free."""
+    return grow(list(bottom), (ROWS - top - len(bottom)) // 2, kinds, leaves, side)
 
 
-def left(kinds, type_, bottom=None):
-    rows = list(bottom or [leaf(0)])
-    for i, k in enumerate(kinds):
-        rows += [leaf(i), (k, 0, 0, len(rows) + 2)]
-    return sole(rows, type_)
-
-
-def right(kinds, type_, bottom=None):
-    low = bottom or [leaf(0)]
-    rows = [leaf(i) for i in range(len(kinds))] + low
-    return sole(rows + [(k, 0, 0, 2 * i + 2 + len(low)) for i, k in enumerate(kinds)], type_)
-
-
-def in_turns(one, two, on_left, type_, bottom=None, n=1365):
-    """A one-child row and a two-child row by turns."""
-    rows = list(bottom or [leaf(0)])
-    for _ in range(n):
-        rows.append((one, 0, 0, len(rows) + 1))
-        rows = rows + [leaf(1)] if on_left else [leaf(1)] + rows
-        rows.append((two, 0, 0, len(rows) + 1))
-    return sole(rows, type_)
+def spaced(bottom, every, wrap, kinds, leaves, side):
+    """A one-child row over each `every` rows of two children."""
+    rows, left = list(bottom), ROWS - len(bottom)
+    while left >= 2 * every + 1:
+        rows = one(wrap, grow(rows, every, kinds, leaves, side))
+        left -= 2 * every + 1
+    return grow(rows, left // 2, kinds, leaves, side)
 
 
 def factored(type_, n):
     """(a ~ X) | (a ~ c), n deep: factor fires on every level."""
-    rows = [leaf(1)]
+    rows = [B]
     for _ in range(n):
-        x = len(rows)
-        rows = [leaf(0)] + rows + [(SEQ, 0, 0, x + 2), leaf(0), leaf(1), (SEQ, 0, 0, 3), (CHOICE, 0, 0, x + 6)]
+        rows = two(CHOICE, two(SEQ, [A], rows), two(SEQ, [A], [B]))
     return sole(rows, type_)
 
 
-def by_names(body, type_):
-    """256 rules, each body(i) of the next one's name."""
-    text = b"".join(b"r%03d" % i for i in range(256)) + b"ANYx"
+def listed(type_, n):
+    """(a ~ X)* ~ a, n deep: list fires on every level."""
+    rows = [Y]
+    for _ in range(n):
+        rows = two(SEQ, one(REP, two(SEQ, [X], rows)), [X])
+    return sole(rows, type_)
+
+
+def by_names(body, type_, n=RULES):
+    """n rules, each body(i) of the next one's name."""
+    text = b"".join(b"r%03d" % i for i in range(n)) + b"ANYx"
     rules, rows = [], []
-    for i in range(256):
-        b = body(i, (IDENT, 4 * (i + 1), 4, 1), (IDENT, 1024, 3, 1), (STR, 1027, 1, 1))
+    for i in range(n):
+        b = body(i, (IDENT, 4 * (i + 1), 4, 1), (IDENT, 4 * n, 3, 1), (STR, 4 * n + 3, 1, 1))
         rules.append((4 * i, 4, type_, len(b)))
         rows += b
+    assert len(rows) <= ROWS
     return case(rules, rows, text)
+
+
+def loop(e, any_=ANY):
+    return one(REP, two(SEQ, one(NEG, e), [any_]))
 
 
 def read(i, next_, any_, x):
     if i == 0:
-        return [next_, (NEG, 0, 0, 2), any_, (SEQ, 0, 0, 4), (REP, 0, 0, 5)]
+        return loop([next_], any_)
     return [x] if i == 255 else [x, next_, (CHOICE, 0, 0, 3)]
+
+
+def read_left(i, next_, any_, x):
+    if i == 0:
+        return loop([next_], any_)
+    return [x] if i == 255 else [next_, x, (CHOICE, 0, 0, 3)]
 
 
 def searched(i, next_, any_, x):
@@ -85,37 +111,108 @@ def searched(i, next_, any_, x):
     return b
 
 
+def ringed(i, next_, any_, x):
+    """A ring: each rule names the next under a Choice, the last names the first and pushes."""
+    if i == 255:
+        return two(CHOICE, [(IDENT, 0, 4, 1)], one(PUSH, [x]))
+    return two(CHOICE, [next_], two(SEQ, [next_], [x]))
+
+
+def written(n, left, side, where):
+    """A loop whose list is come by through n rules, below as many rows of two children as there is room for."""
+    last = n - 1
+
+    def body(i, next_, any_, x):
+        if i == 0:
+            low = loop([next_], any_)
+            rest = sum(len(body(j, next_, any_, x)) for j in range(1, n))
+            return grow(low, (ROWS - rest - len(low)) // 2, KINDS["choice"], ((STR, 0, 1, 1),), side)
+        if i == last:
+            return [x]
+        return ([next_, x, (CHOICE, 0, 0, 3)] if left else [x, next_, (CHOICE, 0, 0, 3)]) if where == "pair" else [next_]
+    return by_names(body, ATOMIC, n)
+
+
+def over_leaves(n, side, leaf):
+    """A loop over a Choice of n leaves."""
+    return loop(grow([leaf], n - 1, (CHOICE,), (leaf,), side))
+
+
+def deep_reading(n, side, rules):
+    """A loop over a Choice nested on one side, at whose bottom a way of rules begins."""
+    def body(i, next_, any_, x):
+        if i == 0:
+            rest = sum(len(body(j, next_, any_, x)) for j in range(1, rules))
+            return loop(grow([next_], min(n, (ROWS - rest - 5) // 2), (CHOICE,), (x,), side), any_)
+        return [x] if i == rules - 1 else [next_, x, (CHOICE, 0, 0, 3)]
+    return by_names(body, ATOMIC, rules)
+
+
+def deep_rule(side, type_):
+    """A loop over a rule that is a deep Choice."""
+    rows = grow([A], 2044, (CHOICE,), (B,), side)
+    low = loop([(IDENT, 1, 1, 1)])
+    return case([(0, 1, ATOMIC, len(low)), (1, 1, type_, len(rows))], low + rows, TEXT)
+
+
 # what a step rewrites, at the bottom of a deep tree: trees in which nothing fires are copied without a walk
-ANY = (IDENT, 3, 3, 1)
 BOTTOMS = {
-    "loop": [leaf(0), (NEG, 0, 0, 2), ANY, (SEQ, 0, 0, 4), (REP, 0, 0, 5)],
-    "twice": [leaf(0), (REP_EXACT, 2, 0, 2)],
-    "strings": [leaf(0), leaf(1), (SEQ, 0, 0, 3)],
-    "heads": [leaf(0), leaf(0), (SEQ, 0, 0, 3), leaf(0), leaf(1), (SEQ, 0, 0, 3), (CHOICE, 0, 0, 7)],
-    "list": [leaf(0), leaf(1), leaf(0), (SEQ, 0, 0, 3), (REP, 0, 0, 4), (SEQ, 0, 0, 6)],
-    "push": [leaf(0), (PUSH, 0, 0, 2)],
+    "plain": [A],
+    "loop": loop([A]),
+    "repseq": one(REP, two(SEQ, [A], [B])),
+    "repseqs": one(REP, two(SEQ, [A], one(REP, two(SEQ, [A], [B])))),
+    "twice": one(EXACT, [A], 2),
+    "once": one(EXACT, [A], 1),
+    "strings": two(SEQ, [A], [B]),
+    "heads": two(CHOICE, two(SEQ, [A], [A]), two(SEQ, [A], [B])),
+    "first": two(CHOICE, [A], two(SEQ, [A], [B])),
+    "list": two(SEQ, one(REP, two(SEQ, [X], [Y])), [X]),
+    "listed": two(SEQ, [A], one(REP, two(SEQ, [B], [A]))),
+    "push": one(PUSH, [A]),
+    "all": two(CHOICE, two(SEQ, [X], one(PUSH, [A])), two(SEQ, [X], two(SEQ, one(REP, two(SEQ, [X], [Y])), [X]))),
 }
 
-tables = {"readings": by_names(read, ATOMIC), "searches": by_names(searched, NORMAL)}
-for type_ in (NORMAL, ATOMIC, COMPOUND):
-    for name, k in (("opt", OPT), ("rep", REP), ("pos", POS), ("neg", NEG), ("push", PUSH)):
-        tables["%s-%d" % (name, type_)] = nested([k] * 4095, type_)
-    for name, kinds in (("seq", [SEQ] * 2047), ("choice", [CHOICE] * 2047), ("both", [SEQ, CHOICE] * 1023)):
-        tables["left-%s-%d" % (name, type_)] = left(kinds, type_)
-        tables["right-%s-%d" % (name, type_)] = right(kinds, type_)
-    for one in (OPT, REP, NEG, PUSH):
-        for two in (SEQ, CHOICE):
+tables = {"readings": by_names(read, ATOMIC), "readings-left": by_names(read_left, ATOMIC),
+          "searches": by_names(searched, NORMAL), "rings": by_names(ringed, NORMAL)}
+for side in ("left", "right", "turns"):
+    for n in (2, 3, 100, 256):
+        for where in ("pair", "way"):
             for on_left in (True, False):
-                tables["turns-%d-%d-%s-%d" % (one, two, "left" if on_left else "right", type_)] = in_turns(one, two, on_left, type_)
+                tables["written-%s-%d-%s-%s" % (side, n, where, "left" if on_left else "right")] = written(n, on_left, side, where)
+        tables["reading-%s-%d" % (side, n)] = deep_reading(2044, side, n)
+    for name, leaf in (("str", A), ("id", X)):
+        tables["leaves-%s-%s" % (side, name)] = sole(over_leaves(2046, side, leaf), ATOMIC)
+    tables["rule-%s" % side] = deep_rule(side, NORMAL)
+for type_ in (NORMAL, ATOMIC, COMPOUND):
+    for name, k in (("opt", OPT), ("rep", REP), ("pos", POS), ("neg", NEG), ("push", PUSH), ("exact", EXACT)):
+        rows = [A]
+        for _ in range(4095):
+            rows.append((k, int(k == EXACT), 0, len(rows) + 1))
+        tables["%s-%d" % (name, type_)] = sole(rows, type_)
     tables["factored-%d" % type_] = factored(type_, 680)
+    tables["listed-%d" % type_] = listed(type_, 818)
     for what, low in BOTTOMS.items():
-        for name, kinds in (("seq", [SEQ] * 2043), ("choice", [CHOICE] * 2043), ("both", [SEQ, CHOICE] * 1021)):
-            tables["left-%s-%s-%d" % (name, what, type_)] = left(kinds, type_, low)
-            tables["right-%s-%s-%d" % (name, what, type_)] = right(kinds, type_, low)
-        tables["opt-%s-%d" % (what, type_)] = nested([OPT] * 2040, type_, low)
-        tables["neg-%s-%d" % (what, type_)] = nested([NEG] * 4085, type_, low)
-        for two in (SEQ, CHOICE):
-            tables["turns-%d-%s-%d" % (two, what, type_)] = in_turns(OPT, two, True, type_, low, 1360)
+        for side in ("left", "right", "turns"):
+            for kinds in KINDS:
+                for leaves in LEAVES if type_ == ATOMIC else ("str",):
+                    name = "%s-%s-%s-%s-%d" % (side, kinds, leaves, what, type_)
+                    tables[name] = sole(filled(low, KINDS[kinds], LEAVES[leaves], side), type_)
+            for top in (OPT, REP, NEG, PUSH) if what in ("plain", "repseq", "list", "push") else ():
+                for kinds in ("seq", "choice"):
+                    rows = filled(low, KINDS[kinds], LEAVES["range"], side, 1)
+                    tables["%s-%s-%s-%d-under-%d" % (side, kinds, what, type_, top)] = sole(one(top, rows), type_)
+        for wrap in (OPT, REP, NEG, PUSH):
+            for kinds in ("seq", "choice"):
+                for every in (1, 50):
+                    name = "spaced-%d-%d-%s-%s-%d" % (wrap, every, kinds, what, type_)
+                    tables[name] = sole(spaced(low, every, wrap, KINDS[kinds], LEAVES["range"], "left"), type_)
+    # all but one of the rules are one row each
+    for n in (2, 3, 256):
+        rows = filled(BOTTOMS["repseq"], (CHOICE,), LEAVES["str"], "right", n - 1)
+        rules = [(0, 1, type_, len(rows))] + [(i, 2, NORMAL, 1) for i in range(n - 1)]
+        text = bytes(b for i in range(n) for b in (1 + i // 100, 1 + i % 100))
+        rules = [(0, 1, type_, len(rows))] + [(2 * i, 2, NORMAL, 1) for i in range(1, n)]
+        tables["rules-%d-%d" % (n, type_)] = case(rules, rows + [A] * (n - 1), text)
 os.makedirs(sys.argv[1], exist_ok=True)
 for name, data in tables.items():
     with open(os.path.join(sys.argv[1], name), "wb") as out:

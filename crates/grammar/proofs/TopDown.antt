@@ -2,14 +2,15 @@
 use mathlib.Core.Path.{_≡_, refl, sym, ap, ap₂, _∙_}
 use mathlib.Core.Bool.{Bool, true, false}
 use mathlib.Core.Option.{Option, none, some}
-use mathlib.Core.List.{List}
+use mathlib.Core.List.{List, [], _∷_}
 use Prim.Native.Nat.{ℕ, zero, suc, _+_, _≤_, _<_}
 use native.Mathlib.Omega.{arith}
 use Rattle.grammar.specs.Basic.{Bytes, _>>=_, orElse, test}
 use Rattle.grammar.specs.Tree.{Bin, Choice, E, Expr, Opt, Seq, asSeq, bin, fixed, lit, same, size, skip, un}
 use Rattle.grammar.specs.Table.{Table}
+use Rattle.grammar.specs.Refusals.{names}
 use Rattle.grammar.specs.Lists.{asStrings, loopOver, skipList}
-use Rattle.grammar.specs.Steps.{children, factor, factor?, factorCase, isTight, orSame, rotate, rotateAt, rotated, skip?, topDown, topDownIn}
+use Rattle.grammar.specs.Steps.{children, each, factor, factor?, factorCase, isTight, orSame, rotate, rotateAt, rotated, skip?, topDown, topDownIn}
 use Rattle.grammar.proofs.Logic.{none-some}
 
 -- the rows below a node that a mapping enters
@@ -132,3 +133,8 @@ factor-falls tight (bin Choice l r) = factor-sides tight l r (asSeq l) (asSeq r)
 pub factor-step : (type : ℕ) (e : E) → factor type e ≡ children (factor type) (orSame (factor? (isTight type)) e)
 unfolding factor
 factor-step type e = topDown-step (orSame (factor? (isTight type))) (factor-falls (isTight type)) e
+
+-- a step on every rule changes no name
+pub each-names : (f : ℕ → E → E) (t : Table Bytes) → names (each f t) ≡ names t
+each-names f [] = refl
+each-names f (r ∷ t) = ap (λ (l : List Bytes). r .name ∷ l) (each-names f t)

@@ -13,6 +13,7 @@ use Rattle.grammar.specs.Lists.{ANY}
 use Rattle.grammar.specs.Steps.{each, rotate, skipTo, unroll, concatenate, factor, list, restore}
 use Rattle.grammar.specs.Refusals.{names}
 use Rattle.grammar.specs.Optimize.{stages, pairs, Result, result, answer, optimize}
+use Rattle.grammar.proofs.TopDown.{each-names}
 use Rattle.grammar.proofs.Words.{AllowedTable, table-is}
 use Rattle.meaning.specs.Outcome.{Res, Out}
 use Rattle.meaning.specs.Demand3.{StandFor, allKinds, returned, after, Nowhere, crossed, Premises, SameOutcomes, Demand3}
@@ -47,10 +48,6 @@ unfolding after
 restore-keeps t s = always (λ _. restore (after 6 t)) (λ u s y e. restore-same (after 6 t) e) (after 6 t) s
 
 -- For every rule, from every expression
-
-each-names : (f : ℕ → E → E) (t : Table Bytes) → names (each f t) ≡ names t
-each-names f [] = refl
-each-names f (r ∷ t) = ap (λ (l : List Bytes). r .name ∷ l) (each-names f t)
 
 five-names : (t : Table Bytes) → names (after 5 t) ≡ names t
 unfolding after

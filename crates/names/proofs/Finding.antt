@@ -10,11 +10,13 @@ use Rattle.grammar.specs.Basic.{Bytes, sameBytes}
 use Rattle.grammar.specs.Tree.{E, size}
 use Rattle.grammar.specs.Rows.{Span, flat}
 use Rattle.grammar.specs.Text.{bytesAt, resolve}
+use Rattle.grammar.specs.Refusals.{names}
 use Rattle.grammar.specs.Table.{Rule, Table, ruleWords, rowWords, rowCount, resolveTable, find}
 use Rattle.grammar.proofs.Logic.{none-some, some-eq, eq-sameBytes, sameBytes-eq}
 use Rattle.rows.specs.Rows as rows
 use Rattle.rows.proofs.Laws.{length-flat, size-pos}
-use Rattle.names.specs.Names.{nameOf, rowsBefore, First, Finds}
+use Rattle.names.specs.Names.{nameOf, rowsBefore, NamesInside, Hashed, First, Finds}
+use Rattle.names.proofs.Index.{hashed-named}
 use Rattle.names.specs.declared.Found.{Found}
 use Rattle.names.specs.declared.Found.the-variants.{At, Nothing}
 
@@ -161,3 +163,27 @@ body-at (s ∷ t) (suc i) r h =
       whole = ap (λ (w : List ℕ). flat (s .body) ++ w) (a .whole) ∙ sym (append-assoc (flat (s .body)) (a .before) _);
       place = simp length-append (omega (arith, length-flat (s .body), a .place, before-past (s .name .0) (s .name .1) (s .type) (size (s .body)) (ruleWords t) (suc i), rule-words t i r h .rows′, size-pos (r .body)));
     }
+
+-- ---- the names of a table
+
+names-at : (text : Bytes) (t : Table Span) (i : ℕ) (r : Rule Span) → getElem? t i ≡ some r → getElem? (names (resolveTable text t)) i ≡ some (bytesAt text (r .name))
+names-at text [] i r h = none-some h
+names-at text (s ∷ t) zero r h = let e : s ≡ r = some-eq _ _ h in rw (← e)
+names-at text (s ∷ t) (suc i) r h = names-at text t i r h
+
+names-length : (text : Bytes) (t : Table Span) → length (names (resolveTable text t)) ≡ length t
+names-length text [] = refl
+names-length text (r ∷ t) = omega (arith, names-length text t)
+
+-- THE INDEX OF A TABLE'S NAMES is that of every table with these names
+pub hashed-moved : (t t′ : Table Span) {text text′ : Bytes} {m : List ℕ} → names (resolveTable text′ t′) ≡ names (resolveTable text t) → NamesInside (ruleWords t′) (length text′) → Hashed (ruleWords t) text m → Hashed (ruleWords t′) text′ m
+hashed-moved t t′ {text} {text′} e f h = hashed-named (omega (arith, rule-count t, rule-count t′, same)) (λ i l. at i (there t i (omega (arith, rule-count t))) (there t′ i (omega (arith, rule-count t, same)))) f h
+  where
+    same : length t′ ≡ length t
+    same = sym (names-length text′ t′) ∙ ap length e ∙ names-length text t
+
+    at : (i : ℕ) → There t i → There t′ i → nameOf (ruleWords t′) text′ i ≡ nameOf (ruleWords t) text i
+    at i a b =
+        name-is text′ t′ i (b .rule) (b .is)
+        ∙ some-eq _ _ (sym (names-at text′ t′ i (b .rule) (b .is)) ∙ ap (λ (x : List Bytes). getElem? x i) e ∙ names-at text t i (a .rule) (a .is))
+        ∙ sym (name-is text t i (a .rule) (a .is))

@@ -1,4 +1,4 @@
 -- Laws of names, that other crates' proofs cite.
 pub mod Marks
-pub mod Chains
+pub mod Index
 pub mod Finding

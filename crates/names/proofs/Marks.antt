@@ -7,14 +7,16 @@ use native.Mathlib.Nat.{add-zero}
 use native.Mathlib.Numerals.{add-one}
 use native.Mathlib.Decide.{ℕ-discrete}
 use native.Mathlib.Omega.{arith}
-use lib.ListN.{length, getD, set, length-set}
-use lib.Seq.{drop-cons, take-all, getD-set-same, getD-set-other}
+use borrow.Author.Tests.{lt-ltb, le-ltb, eqb-true, eqb-false, leb-true, leb-false}
+use lib.Dec.{eqb, leb}
+use lib.ListN.{length, getD, set, drop, length-set, length-take, length-drop}
+use lib.Seq.{drop-cons, ext-getD, getD-take, getD-drop, take-all, getD-set-same, getD-set-other}
 use Rattle.grammar.specs.Basic.{Bytes, sameBytes}
 use Rattle.grammar.specs.Text.{bytesAt}
 use Rattle.grammar.proofs.Logic.{or-left, eq-sameBytes, sameBytes-eq}
-use Rattle.rows.specs.Rows.{Tells}
-use Rattle.rows.proofs.Laws.{length-part}
-use Rattle.names.specs.Names.{rowsBefore, hashFrom, hashOf, marked, withEnds, Ended}
+use Rattle.rows.specs.Rows.{Tells, Unlike}
+use Rattle.rows.proofs.Laws.{length-part, same-parts}
+use Rattle.names.specs.Names.{rowsBefore, hashFrom, lastBytes, bucketOf, symbolAt, marked, withEnds, Ended}
 
 -- ---- the hash
 
@@ -22,11 +24,8 @@ use Rattle.names.specs.Names.{rowsBefore, hashFrom, hashOf, marked, with
 pub part-cons : (t : Bytes) (x n : ℕ) → x + suc n ≤ length t → bytesAt t (x, suc n) ≡ getD t x 0 ∷ bytesAt t (x + 1, n)
 part-cons t x n h = rw (drop-cons t x 0 (omega arith), add-one)
 
-pub hash-start : (t : Bytes) (x n : ℕ) → x + n ≤ length t → hashFrom (n % 2 ^ 32) (bytesAt t (x + 0, n - 0)) ≡ hashOf (bytesAt t (x, n))
-unfolding hashOf
-hash-start t x n h =
-    let e : n - 0 ≡ n = omega arith in
-    rw (add-zero, e) (ap (λ (m : ℕ). hashFrom (m % 2 ^ 32) (bytesAt t (x, n))) (sym (length-part t x n h)))
+pub hash-start : (t : Bytes) (x n h : ℕ) → hashFrom h (bytesAt t (x + 0, n - 0)) ≡ hashFrom h (bytesAt t (x, n))
+hash-start t x n h = let e : n - 0 ≡ n = omega arith in rw (add-zero, e)
 
 pub hash-step : (t : Bytes) (x n i h : ℕ) → i < n → x + n ≤ length t → hashFrom h (bytesAt t (x + i, n - i)) ≡ hashFrom ((h * 16777619 + getD t (x + i) 0) % 2 ^ 32) (bytesAt t (x + (i + 1), n - (i + 1)))
 hash-step t x n i h l f =
@@ -36,6 +35,67 @@ hash-step t x n i h l f =
 
 pub hash-end : (t : Bytes) (x n i h : ℕ) → n ≤ i → hashFrom h (bytesAt t (x + i, n - i)) ≡ h
 hash-end t x n i h l = let e : n - i ≡ 0 = omega arith in rw e
+
+-- the end of a part
+part-drop : (t : Bytes) (x n k : ℕ) → x + n ≤ length t → k ≤ n → bytesAt t (x + k, n - k) ≡ drop k (bytesAt t (x, n))
+part-drop t x n k h l =
+    ext-getD 0 _ _ (simp (length-take, length-drop) (omega arith))
+    (λ i j.
+    let b : i < n - k = omega (arith, simp (length-take, length-drop) at j) in
+    let c : k + i < n = omega arith in
+    let e : x + k + i ≡ x + (k + i) = omega arith in
+    rw (getD-take, getD-drop, getD-drop, getD-take, getD-drop, e))
+
+-- the bucket of a part, by its last bytes
+pub bucket-is : (t : Bytes) (x n count from h : ℕ) → x + n ≤ length t → from ≡ n - lastBytes → h ≡ hashFrom (n % 2 ^ 32) (bytesAt t (x + from, n - from)) → h % count ≡ bucketOf count (bytesAt t (x, n))
+unfolding bucketOf
+bucket-is t x n count from h l e f =
+    let w : length (bytesAt t (x, n)) ≡ n = length-part t x n l in
+    rw (w, f, ← e) (ap (λ (s : Bytes). hashFrom (n % 2 ^ 32) s % count) (part-drop t x n from l (omega arith)))
+
+-- ---- what stands at a position
+
+pub symbol-in : (t : Bytes) (x n d : ℕ) → x + n ≤ length t → d < n → suc (getD t (x + d) 0) ≡ symbolAt (bytesAt t (x, n)) d
+unfolding symbolAt
+symbol-in t x n d l h = rw (lt-ltb d (length (bytesAt t (x, n))) (omega (arith, length-part t x n l)), getD-take, getD-drop)
+
+pub symbol-out : (t : Bytes) (x n d : ℕ) → x + n ≤ length t → n ≤ d → 0 ≡ symbolAt (bytesAt t (x, n)) d
+unfolding symbolAt
+symbol-out t x n d l h = rw (le-ltb d (length (bytesAt t (x, n))) (omega (arith, length-part t x n l)))
+
+-- whether two names have the same at a position: by their bytes, or by where they end
+module _ (t : Bytes) (x n : ℕ) (u : Bytes) (y m d : ℕ) (h : x + n ≤ length t) (k : y + m ≤ length u) where
+  pub both-in : d < n → d < m → Tells (eqb (getD t (x + d) 0) (getD u (y + d) 0)) (symbolAt (bytesAt t (x, n)) d ≡ symbolAt (bytesAt u (y, m)) d)
+  both-in a b = go (eqb (getD t (x + d) 0) (getD u (y + d) 0)) refl
+    where
+      go : (r : Bool) → eqb (getD t (x + d) 0) (getD u (y + d) 0) ≡ r → Tells r (symbolAt (bytesAt t (x, n)) d ≡ symbolAt (bytesAt u (y, m)) d)
+      go true e = sym (symbol-in t x n d h a) ∙ ap suc (eqb-true _ _ e) ∙ symbol-in u y m d k b
+      go false e = λ q. let p = symbol-in t x n d h a in let r = symbol-in u y m d k b in let z : getD t (x + d) 0 ≡ getD u (y + d) 0 = omega arith in eqb-false _ _ e z
+
+  pub one-in : d < n → m ≤ d → symbolAt (bytesAt t (x, n)) d ≡ symbolAt (bytesAt u (y, m)) d → ⊥
+  one-in a b q = let p = symbol-in t x n d h a in let r = symbol-out u y m d k b in omega arith
+
+  pub none-in : n ≤ d → Tells (leb m d) (symbolAt (bytesAt t (x, n)) d ≡ symbolAt (bytesAt u (y, m)) d)
+  none-in a = go (leb m d) refl
+    where
+      go : (r : Bool) → leb m d ≡ r → Tells r (symbolAt (bytesAt t (x, n)) d ≡ symbolAt (bytesAt u (y, m)) d)
+      go true e = sym (symbol-out t x n d h a) ∙ symbol-out u y m d k (leb-true m d e)
+      go false e = λ q. let p = symbol-out t x n d h a in let r = symbol-in u y m d k (leb-false m d e) in omega arith
+
+-- names of two lengths differ where the shorter ends
+pub shorter-apart : (t : Bytes) (x n y m : ℕ) → x + n ≤ length t → y + m ≤ length t → n < m → symbolAt (bytesAt t (x, n)) n ≡ symbolAt (bytesAt t (y, m)) n → ⊥
+shorter-apart t x n y m h k l e = let a = symbol-out t x n n h (omega arith) in let b = symbol-in t y m n k l in omega arith
+
+pub longer-apart : (t : Bytes) (x n y m : ℕ) → x + n ≤ length t → y + m ≤ length t → m < n → symbolAt (bytesAt t (x, n)) m ≡ symbolAt (bytesAt t (y, m)) m → ⊥
+longer-apart t x n y m h k l e = shorter-apart t y m x n k h l (sym e)
+
+-- names of one length, by the first byte in which they differ
+module _ (t : Bytes) (x n y m d : ℕ) (h : x + n ≤ length t) (k : y + m ≤ length t) (e : n ≡ m) (u : Unlike t x t y n d) where
+  pub bytes-apart : d < n → symbolAt (bytesAt t (x, n)) d ≡ symbolAt (bytesAt t (y, m)) d → ⊥
+  bytes-apart l q = let a = symbol-in t x n d h l in let b = symbol-in t y m d k (omega arith) in u .unlike l (omega arith)
+
+  pub bytes-same : n ≤ d → bytesAt t (x, n) ≡ bytesAt t (y, m)
+  bytes-same l = rw (← e) (same-parts t t x y n h (omega arith) (λ i b. u .same i (omega arith)))
 
 -- ---- marks after they are written
 
@@ -91,10 +151,6 @@ part-differ t x n s h d e = d (sym (length-part t x n h) ∙ ap length e)
 
 pub parts-differ : (t : Bytes) (x l : ℕ) (u : Bytes) (y n : ℕ) → x + l ≤ length t → y + n ≤ length u → (l ≡ n → ⊥) → bytesAt t (x, l) ≡ bytesAt u (y, n) → ⊥
 parts-differ t x l u y n h k d = part-differ t x l (bytesAt u (y, n)) h (λ e. d (e ∙ length-part u y n k))
-
--- unequal hashes mean unequal names
-pub hashes-differ : (p q : Bytes) (a b : ℕ) → a ≡ hashOf p → b ≡ hashOf q → (a ≡ b → ⊥) → p ≡ q → ⊥
-hashes-differ p q a b ha hb d e = d (ha ∙ ap hashOf e ∙ sym hb)
 
 -- one mark more
 pub marked-step : (f : ℕ → ℕ) (j i : ℕ) (m w : List ℕ) (k v : ℕ) → w ≡ marked f j i m → k ≡ i * 4 + j → v ≡ f i → set w k v ≡ marked f j (i + 1) m

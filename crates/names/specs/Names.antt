@@ -1,13 +1,17 @@
 -- Names of rules given as words, their marks, and which rule a search finds. A rule is four words, and so is its mark. Assumes nothing.
 use mathlib.Core.Path.{_≡_}
+use mathlib.Core.Bool.{Bool, true, false, cond}
 use mathlib.Core.List.{List, [], _∷_}
-use Prim.Native.Nat.{ℕ, zero, suc, _+_, _*_, _/_, _%_, _^_, _<_, _≤_}
-use lib.ListN.{length, getD, set}
+use Prim.Native.Nat.{ℕ, zero, suc, _+_, _-_, _*_, _/_, _%_, _^_, _<_, _≤_}
+use lib.Dec.{eqb, ltb}
+use lib.ListN.{length, getD, set, drop}
 use Rattle.grammar.specs.Basic.{Bytes}
 use Rattle.grammar.specs.Rows.{Span}
 use Rattle.grammar.specs.Text.{bytesAt}
 use Rattle.names.specs.declared.Found.{Found}
 use Rattle.names.specs.declared.Found.the-variants.{At, Nothing}
+use Rattle.names.specs.declared.Apart.{Apart}
+use Rattle.names.specs.declared.Apart.the-variants.{Position, Nowhere}
 
 -- the name of rule i: offset and length, and its bytes
 abbrev pub nameSpan : List ℕ → ℕ → Span
@@ -21,13 +25,17 @@ abbrev pub rowsBefore : List ℕ → ℕ → ℕ
 rowsBefore rules zero = 0
 rowsBefore rules (suc i) = rowsBefore rules i + getD rules (i * 4 + 3) 0
 
--- a word that tells names apart: where it differs, they do
+-- so many of a name's last bytes count for its bucket, and its length: it costs little however long the name is
+abbrev pub lastBytes : ℕ
+lastBytes = 8
+
 abbrev pub hashFrom : ℕ → Bytes → ℕ
 hashFrom h [] = h
 hashFrom h (b ∷ s) = hashFrom ((h * 16777619 + b) % 2 ^ 32) s
 
-unfoldable pub hashOf : Bytes → ℕ
-hashOf s = hashFrom (length s % 2 ^ 32) s
+-- the bucket of a name, where there are n
+unfoldable pub bucketOf : ℕ → Bytes → ℕ
+bucketOf n s = hashFrom (length s % 2 ^ 32) (drop (length s - lastBytes) s) % n
 
 -- the marks m with word j of the first n marks set to f, and all else as it was
 abbrev pub marked : (ℕ → ℕ) → ℕ → ℕ → List ℕ → List ℕ
@@ -41,47 +49,92 @@ withEnds rules m = marked (λ i. rowsBefore rules (suc i)) 3 (length rules / 4) 
 abbrev pub NamesInside : List ℕ → ℕ → Type 0
 NamesInside rules n = (i : ℕ) → i < length rules / 4 → getD rules (i * 4) 0 + getD rules (i * 4 + 1) 0 ≤ n
 
--- word 2 of mark j in two halves: the first rule of bucket j, and the next rule of rule j's bucket
-abbrev pub headAt : List ℕ → ℕ → ℕ
-headAt m j = getD m (j * 4 + 2) 0 % 65536
+-- the marks by halves of their words: half h is that of word h / 2, the lower one where h is even
+unfoldable pub halfAt : List ℕ → ℕ → ℕ
+halfAt m h = cond (eqb (h % 2) 0) (getD m (h / 2) 0 % 65536) (getD m (h / 2) 0 / 65536)
 
-abbrev pub nextAt : List ℕ → ℕ → ℕ
-nextAt m j = getD m (j * 4 + 2) 0 / 65536
+unfoldable pub withHalf : List ℕ → ℕ → ℕ → List ℕ
+withHalf m h v = set m (h / 2) (cond (eqb (h % 2) 0) (getD m (h / 2) 0 / 65536 * 65536 + v) (v * 65536 + getD m (h / 2) 0 % 65536))
 
-abbrev pub withHead : List ℕ → ℕ → ℕ → List ℕ
-withHead m j v = set m (j * 4 + 2) (nextAt m j * 65536 + v)
+-- what stands at a position of a name: 0 past its end
+unfoldable pub symbolAt : Bytes → ℕ → ℕ
+symbolAt s d = cond (ltb d (length s)) (suc (getD s d 0)) 0
 
-abbrev pub withNext : List ℕ → ℕ → ℕ → List ℕ
-withNext m j v = set m (j * 4 + 2) (v * 65536 + headAt m j)
+-- Names are found along a tree for each bucket. Half 1 of mark b is the slot where the tree of bucket b starts. Node k, in the mark of rule k, asks at
+-- the position in half 0 whether a name has there what rule k's has: half 5 is the slot to go on with if so, half 4 if not. Of n rules a slot
+-- holds a rule below n, or n for none, or n + k for node k.
+pub record Slot (n s : ℕ) : Type 0 where
+  pub inside : s < n * 8
+  pub word : s % 4 < 2
+  pub place : 0 < s % 8
 
--- the bucket of rule i: there are as many as rules
-abbrev pub bucketOf : List ℕ → Bytes → ℕ → ℕ
-bucketOf rules text i = hashOf (nameOf rules text i) % (length rules / 4)
+-- the slot that a key goes on with at node k; the rules have these names
+unfoldable pub onward : (ℕ → Bytes) → List ℕ → Bytes → ℕ → ℕ
+onward name m key k = cond (eqb (symbolAt (name k) (halfAt m (k * 8))) (symbolAt key (halfAt m (k * 8)))) (k * 8 + 5) (k * 8 + 4)
 
--- of the numbers from k to n, v is the first in bucket b; n where there is none
-pub record Leads (bucket : ℕ → ℕ) (n b k v : ℕ) : Type 0 where
-  pub low : k ≤ v
-  pub most : v ≤ n
-  pub here : v < n → bucket v ≡ b
-  pub none : (j : ℕ) → k ≤ j → j < v → bucket j ≡ b → ⊥
+-- the way of a key from slot s to slot e, through nodes below k
+pub data Way (n k : ℕ) (name : ℕ → Bytes) (m : List ℕ) (key : Bytes) : ℕ → ℕ → Type 0 where
+  stay : {s : ℕ} → Way n k name m key s s
+  step : {s e : ℕ} (j : ℕ) → halfAt m s ≡ n + j → 1 ≤ j → j < k → Way n k name m key (onward name m key j) e → Way n k name m key s e
 
--- the rules from k on are in chains, each in its bucket's
-pub record Linked (bucket : ℕ → ℕ) (n k : ℕ) (marks : List ℕ) : Type 0 where
-  pub head : (b : ℕ) → b < n → Leads bucket n b k (headAt marks b)
-  pub next : (i : ℕ) → k ≤ i → i < n → Leads bucket n (bucket i) (suc i) (nextAt marks i)
+-- a key's way from the start of its bucket ends at slot s
+pub record Ends (n k : ℕ) (name : ℕ → Bytes) (m : List ℕ) (key : Bytes) (s : ℕ) : Type 0 where
+  pub way : Way n k name m key (bucketOf n key * 8 + 1) s
+  pub last : halfAt m s ≤ n
 
--- the rules from k on have their names' hashes, and are in chains
+-- it ends with rule i
+pub record Leads (n k : ℕ) (name : ℕ → Bytes) (m : List ℕ) (key : Bytes) (i : ℕ) : Type 0 where
+  pub slot : ℕ
+  pub way : Way n k name m key (bucketOf n key * 8 + 1) slot
+  pub is : halfAt m slot ≡ i
+
+-- slots hold rules below k, nothing, or nodes below k; a node leads to nodes after it; the slots of further nodes are empty
+pub record Shaped (n k : ℕ) (m : List ℕ) : Type 0 where
+  pub rule : (s : ℕ) → Slot n s → halfAt m s < n → halfAt m s < k
+  pub most : (s : ℕ) → Slot n s → halfAt m s ≤ n + (k - 1)
+  pub later : (s : ℕ) → Slot n s → (s % 8 ≡ 1 → ⊥) → n < halfAt m s → n + s / 8 < halfAt m s
+  pub empty : (s : ℕ) → Slot n s → (s % 8 ≡ 1 → ⊥) → k * 8 ≤ s → halfAt m s ≡ n
+
+-- the first k rules are found by their names
 pub record Indexed (k : ℕ) (rules : List ℕ) (text : Bytes) (marks : List ℕ) : Type 0 where
+  pub few : length rules / 4 < 32768
+  pub upTo : k ≤ length rules / 4
   pub long : length rules / 4 * 4 ≤ length marks
-  pub hash : (i : ℕ) → k ≤ i → i < length rules / 4 → getD marks (i * 4) 0 ≡ hashOf (nameOf rules text i)
-  pub linked : Linked (bucketOf rules text) (length rules / 4) k marks
+  pub shaped : Shaped (length rules / 4) k marks
+  pub leads : (i : ℕ) → i < k → Leads (length rules / 4) k (nameOf rules text) marks (nameOf rules text i) i
 
--- word 0 of each rule's mark is its name's hash, and word 2 puts it into a chain
+-- some are
+pub record Walkable (rules : List ℕ) (text : Bytes) (marks : List ℕ) : Type 0 where
+  pub upTo : ℕ
+  pub indexed : Indexed upTo rules text marks
+
+-- all are
 pub record Hashed (rules : List ℕ) (text : Bytes) (marks : List ℕ) : Type 0 where
   pub inside : NamesInside rules (length text)
   pub long : length rules / 4 * 4 ≤ length marks
-  pub hash : (i : ℕ) → i < length rules / 4 → getD marks (i * 4) 0 ≡ hashOf (nameOf rules text i)
-  pub linked : Linked (bucketOf rules text) (length rules / 4) 0 marks
+  pub indexed : Indexed (length rules / 4) rules text marks
+
+-- two rules have one name
+pub record Twice (rules : List ℕ) (text : Bytes) : Type 0 where
+  pub first : ℕ
+  pub second : ℕ
+  pub order : first < second
+  pub there : second < length rules / 4
+  pub same : nameOf rules text first ≡ nameOf rules text second
+
+-- whether the first k rules are found by their names, or two have one
+pub record IndexAnswer (b : Bool) (k : ℕ) (rules : List ℕ) (text : Bytes) (marks : List ℕ) : Type 0 where
+  pub yes : b ≡ true → Indexed k rules text marks
+  pub no : b ≡ false → Twice rules text
+
+pub record NamesAnswer (b : Bool) (rules : List ℕ) (text : Bytes) (marks : List ℕ) : Type 0 where
+  pub yes : b ≡ true → Hashed rules text marks
+  pub no : b ≡ false → Twice rules text
+
+-- two names in a text of n bytes differ at a position, or are the same
+abbrev pub ApartAnswer : Apart → ℕ → Bytes → Bytes → Type 0
+ApartAnswer (Position d) n a b = (d < n) × (symbolAt a d ≡ symbolAt b d → ⊥)
+ApartAnswer Nowhere n a b = a ≡ b
 
 -- word 3 of each rule's mark is the row after its last row
 pub record Ended (rules marks : List ℕ) : Type 0 where
@@ -97,3 +150,8 @@ pub record First (m : ℕ) (rules : List ℕ) (text key : Bytes) (i : ℕ) : Typ
 abbrev pub Finds : ℕ → List ℕ → Bytes → Bytes → Found → Type 0
 Finds m rules text key (At i) = First m rules text key i
 Finds m rules text key Nothing = (j : ℕ) → j < m → nameOf rules text j ≡ key → ⊥
+
+-- key is the name of a rule
+pub record IsName (rules : List ℕ) (text key : Bytes) : Type 0 where
+  pub rule : ℕ
+  pub is : First (length rules / 4) rules text key rule

@@ -1,7 +1,10 @@
-// Finding rules by name. A rule is four words, and so is its mark: word 0 is the hash of its name, word 3 the row after its last row.
-// The rules are in chains, one for each bucket of hashes, in the halves of word 2: the first rule of the bucket below, the rule's next above.
+// Finding rules by name. A rule is four words, and so is its mark: words 0 and 2 are the index of names, word 3 the row after its last row.
+// The index has a tree for each bucket of names. A search goes down its tree, a byte of the name at each node, and compares one name at the end:
+// it costs what that name is long, whatever the other names are. Where things stand in the index: specs/Names.antt.
 ghost use mathlib.Core.Path.{_≡_};
-ghost use Prim.Native.Nat.{_+_, _*_, _/_, _%_, _^_, _≤_, _<_};
+ghost use mathlib.Core.Bool.{cond};
+ghost use Prim.Native.Nat.{ℕ, _+_, _-_, _*_, _/_, _%_, _^_, _≤_, _<_};
+ghost use lib.Dec.{eqb};
 ghost use lib.ListN.{length};
 ghost use Rattle.grammar.specs.Basic.{sameBytes, member};
 ghost use Rattle.grammar.specs.Text.{bytesAt};
@@ -9,7 +12,7 @@ ghost use Rattle.grammar.specs.Lists.{ANY};
 ghost use Rattle.grammar.specs.Stack.{stackNames};
 ghost use Rattle.grammar.specs.Refusals as refusals;
 ghost use Rattle.rows.specs.Rows.{Tells};
-ghost use Rattle.names.specs.Names.{nameOf, rowsBefore, hashOf, marked, withEnds, headAt, withHead, withNext, NamesInside, Indexed, Hashed, Finds};
+ghost use Rattle.names.specs.Names.{nameOf, rowsBefore, hashFrom, lastBytes, bucketOf, halfAt, withHalf, symbolAt, onward, marked, withEnds, NamesInside, Ends, Indexed, Walkable, Hashed, IndexAnswer, NamesAnswer, ApartAnswer, First, Finds, IsName};
 use rows::wide;
 
 // What a search by name finds.
@@ -18,6 +21,21 @@ pub enum Found {
     Nothing,
 }
 
+// A slot of the index, and what it holds.
+struct Spot {
+    slot: usize,
+    holds: usize,
+}
+
+// Where two names differ.
+enum Apart {
+    Position(usize),
+    Nowhere,
+}
+
+// So many of a name's last bytes count for its bucket.
+const LAST: usize = 8;
+
 // A byte as a number.
 fn byte(b: u8) -> usize
     ensures { λ r. ⌜ (r ≡ b) × (r < 256) ⌝ }
@@ -25,18 +43,35 @@ fn byte(b: u8) -> usize
     b as usize
 }
 
-// The hash of the bytes with offset x and length n.
-pub fn hash_bytes(text: &[u8], x: usize, n: usize) -> u32
+// A hash from `seed` on over the bytes with offset x and length n.
+fn hash_bytes(text: &[u8], x: usize, n: usize, seed: usize) -> usize
     requires { ⌜ x + n ≤ length (now text) ⌝ }
-    ensures { λ h. ⌜ h ≡ hashOf (bytesAt (now (text .entry)) (x, n)) ⌝ }
+    ensures { λ h. ⌜ h ≡ hashFrom (seed % 2 ^ 32) (bytesAt (now (text .entry)) (x, n)) ⌝ }
 {
-    let mut h = n % 4294967296;
+    let mut h = seed % 4294967296;
     let mut i = 0;
     while i < n {
         h = (h * 16777619 + byte(text[x + i])) % 4294967296;
         i += 1;
     }
-    h as u32
+    h
+}
+
+// Where the last bytes of a name of n bytes start.
+fn last_from(n: usize) -> usize
+    ensures { λ r. ⌜ r ≡ n - lastBytes ⌝ }
+{
+    if LAST < n { n - LAST } else { 0 }
+}
+
+// The bucket of the name of n bytes at x, of `count` buckets.
+fn bucket_of(text: &[u8], x: usize, n: usize, count: usize) -> usize
+    requires { ⌜ x + n ≤ length (now text) ⌝ }
+    requires { ⌜ 0 < count ⌝ }
+    ensures { λ b. ⌜ (b ≡ bucketOf count (bytesAt (now (text .entry)) (x, n))) × (b < count) ⌝ }
+{
+    let from = last_from(n);
+    hash_bytes(text, x + from, n - from, n) % count
 }
 
 // The lower half of a word.
@@ -61,61 +96,227 @@ fn halves(high: usize, low: usize) -> u32
     (high * 65536 + low) as u32
 }
 
-// Puts rule i before the others in bucket b's chain.
-fn link(marks: &mut [u32], i: usize, b: usize)
-    requires { ⌜ i * 4 + 2 < length (now marks) ⌝ }
-    requires { ⌜ b * 4 + 2 < length (now marks) ⌝ }
-    requires { ⌜ i < 65536 ⌝ }
-    ensures { λ _. ⌜ now (marks .exit) ≡ withHead (withNext (now (marks .entry)) i (headAt (now (marks .entry)) b)) b i ⌝ }
+// Half h of the marks.
+fn half(marks: &[u32], h: usize) -> usize
+    requires { ⌜ h / 2 < length (now marks) ⌝ }
+    ensures { λ r. ⌜ (r ≡ halfAt (now (marks .entry)) h) × (r < 65536) ⌝ }
 {
-    let at = i * 4 + 2;
-    let to = b * 4 + 2;
-    marks[at] = halves(lower(marks[to]), lower(marks[at]));
-    marks[to] = halves(upper(marks[to]), i);
+    let w = marks[h / 2];
+    if h % 2 == 0 { lower(w) } else { upper(w) }
 }
 
-// Empties the buckets.
-fn clear_heads(count: usize, marks: &mut [u32])
-    requires { ⌜ count * 4 ≤ length (now marks) ⌝ }
-    requires { ⌜ count < 65536 ⌝ }
-    ensures { λ _. ⌜ now (marks .exit) ≡ marked (λ _. count) 2 count (now (marks .entry)) ⌝ }
+// The word w with v for the half that h is.
+fn with_half(w: u32, h: usize, v: usize) -> u32
+    requires { ⌜ v < 65536 ⌝ }
+    ensures { λ r. ⌜ r ≡ cond (eqb (h % 2) 0) (w / 65536 * 65536 + v) (v * 65536 + w % 65536) ⌝ }
 {
-    let none = count as u32;
+    if h % 2 == 0 {
+        halves(upper(w), v)
+    } else {
+        halves(v, lower(w))
+    }
+}
+
+// Writes half h of the marks.
+fn set_half(marks: &mut [u32], h: usize, v: usize)
+    requires { ⌜ (h / 2 < length (now marks)) × (v < 65536) ⌝ }
+    ensures { λ _. ⌜ now (marks .exit) ≡ withHalf (now (marks .entry)) h v ⌝ }
+{
+    let at = h / 2;
+    marks[at] = with_half(marks[at], h, v);
+}
+
+// Whether two names, of n bytes at x and of m bytes at y, have the same at position d.
+fn same_symbol(text1: &[u8], x: usize, n: usize, text2: &[u8], y: usize, m: usize, d: usize) -> bool
+    requires { ⌜ (x + n ≤ length (now text1)) × (y + m ≤ length (now text2)) ⌝ }
+    ensures { λ r. ⌜ Tells r (symbolAt (bytesAt (now (text1 .entry)) (x, n)) d ≡ symbolAt (bytesAt (now (text2 .entry)) (y, m)) d) ⌝ }
+{
+    if d < n {
+        if d < m {
+            return text1[x + d] == text2[y + d];
+        }
+        return false;
+    }
+    m <= d
+}
+
+// The slot that the name of n bytes at x of another text goes on with at node k, and what it holds.
+fn go_on(
+    rules: &[u32],
+    text: &[u8],
+    marks: &[u32],
+    k: usize,
+    text2: &[u8],
+    x: usize,
+    n: usize,
+) -> Spot
+    requires { ⌜ NamesInside (now rules) (length (now text)) ⌝ }
+    requires { ⌜ (k < length (now rules) / 4) × (length (now rules) / 4 * 4 ≤ length (now marks)) ⌝ }
+    requires { ⌜ x + n ≤ length (now text2) ⌝ }
+    ensures { λ s. ⌜ (s .slot ≡ onward (nameOf (now (rules .entry)) (now (text .entry))) (now (marks .entry)) (bytesAt (now (text2 .entry)) (x, n)) k) × (s .holds ≡ halfAt (now (marks .entry)) (s .slot)) ⌝ }
+{
+    let at = k * 4;
+    let d = half(marks, k * 8);
+    if same_symbol(text, wide(rules[at]), wide(rules[at + 1]), text2, x, n, d) {
+        let slot = k * 8 + 5;
+        return Spot {
+            slot: slot,
+            holds: half(marks, slot),
+        };
+    }
+    let slot = k * 8 + 4;
+    Spot {
+        slot: slot,
+        holds: half(marks, slot),
+    }
+}
+
+// Where the way of the name of n bytes at x of another text ends.
+fn spot_of(rules: &[u32], text: &[u8], marks: &[u32], text2: &[u8], x: usize, n: usize) -> Spot
+    requires { ⌜ NamesInside (now rules) (length (now text)) ⌝ }
+    requires { ⌜ Walkable (now rules) (now text) (now marks) ⌝ }
+    requires { ⌜ 0 < length (now rules) / 4 ⌝ }
+    requires { ⌜ x + n ≤ length (now text2) ⌝ }
+    ensures { λ s. ⌜ s .holds ≡ halfAt (now (marks .entry)) (s .slot) ⌝ }
+    ensures { λ s. ⌜ ((k : ℕ) → Indexed k (now (rules .entry)) (now (text .entry)) (now (marks .entry)) → Ends (length (now (rules .entry)) / 4) k (nameOf (now (rules .entry)) (now (text .entry))) (now (marks .entry)) (bytesAt (now (text2 .entry)) (x, n)) (s .slot)) ⌝ }
+{
+    let count = rules.len() / 4;
+    let start = bucket_of(text2, x, n, count) * 8 + 1;
+    let mut slot = start;
+    let mut holds = half(marks, start);
+    while count < holds {
+        let s = go_on(rules, text, marks, holds - count, text2, x, n);
+        slot = s.slot;
+        holds = s.holds;
+    }
+    Spot {
+        slot: slot,
+        holds: holds,
+    }
+}
+
+// Where two names of n and m bytes at x and y differ. Where their lengths do, no byte is looked at.
+fn tell_apart(text: &[u8], x: usize, n: usize, y: usize, m: usize) -> Apart
+    requires { ⌜ (x + n ≤ length (now text)) × (y + m ≤ length (now text)) ⌝ }
+    ensures { λ a. ⌜ ApartAnswer a (length (now (text .entry))) (bytesAt (now (text .entry)) (x, n)) (bytesAt (now (text .entry)) (y, m)) ⌝ }
+{
+    if n < m {
+        return Apart::Position(n);
+    }
+    if m < n {
+        return Apart::Position(m);
+    }
+    let d = rows::first_unlike(text, x, text, y, n);
+    if d < n {
+        Apart::Position(d)
+    } else {
+        Apart::Nowhere
+    }
+}
+
+// Makes rule i's node, which tells its name from rule j's at position d, and puts it where rule j was found, in `slot`.
+fn fork(marks: &mut [u32], count: usize, slot: usize, i: usize, j: usize, d: usize)
+    requires { ⌜ (slot / 2 < length (now marks)) × (i * 4 + 2 < length (now marks)) ⌝ }
+    requires { ⌜ (count + i < 65536) × (j < 65536) × (d < 65536) ⌝ }
+    ensures { λ _. ⌜ now (marks .exit) ≡ withHalf (withHalf (withHalf (withHalf (now (marks .entry)) (i * 8) d) (i * 8 + 4) j) (i * 8 + 5) i) slot (count + i) ⌝ }
+{
+    set_half(marks, i * 8, d);
+    set_half(marks, i * 8 + 4, j);
+    set_half(marks, i * 8 + 5, i);
+    set_half(marks, slot, count + i);
+}
+
+// Puts rule i's name, of n bytes at x, beside rule j's, which was found in `slot`: false where they are the same.
+fn beside(rules: &[u32], text: &[u8], marks: &mut [u32], slot: usize, i: usize, j: usize) -> bool
+    requires { ⌜ NamesInside (now rules) (length (now text)) ⌝ }
+    requires { ⌜ (i < length (now rules) / 4) × (length (now text) ≤ 65536) ⌝ }
+    requires { ⌜ Indexed i (now rules) (now text) (now marks) ⌝ }
+    requires { ⌜ Ends (length (now rules) / 4) i (nameOf (now rules) (now text)) (now marks) (nameOf (now rules) (now text) i) slot ⌝ }
+    requires { ⌜ (j ≡ halfAt (now marks) slot) × (j < length (now rules) / 4) ⌝ }
+    ensures { λ b. ⌜ IndexAnswer b (i + 1) (now (rules .entry)) (now (text .entry)) (now (marks .exit)) ⌝ }
+{
+    let at = i * 4;
+    let to = j * 4;
+    match tell_apart(
+        text,
+        wide(rules[to]),
+        wide(rules[to + 1]),
+        wide(rules[at]),
+        wide(rules[at + 1]),
+    ) {
+        Apart::Nowhere => false,
+        Apart::Position(d) => {
+            fork(marks, rules.len() / 4, slot, i, j, d);
+            true
+        }
+    }
+}
+
+// Puts rule i's name into the index of those before it: false where one of them is the same.
+fn index_name(rules: &[u32], text: &[u8], marks: &mut [u32], i: usize) -> bool
+    requires { ⌜ NamesInside (now rules) (length (now text)) ⌝ }
+    requires { ⌜ (i < length (now rules) / 4) × (length (now text) ≤ 65536) ⌝ }
+    requires { ⌜ Indexed i (now rules) (now text) (now marks) ⌝ }
+    ensures { λ b. ⌜ IndexAnswer b (i + 1) (now (rules .entry)) (now (text .entry)) (now (marks .exit)) ⌝ }
+{
+    let at = i * 4;
+    let s = spot_of(
+        rules,
+        text,
+        marks,
+        text,
+        wide(rules[at]),
+        wide(rules[at + 1]),
+    );
+    let slot = s.slot;
+    let j = s.holds;
+    if j < rules.len() / 4 {
+        return beside(rules, text, marks, slot, i, j);
+    }
+    set_half(marks, slot, i);
+    true
+}
+
+// Writes v to word j of the first `count` marks.
+fn fill(count: usize, marks: &mut [u32], j: usize, v: u32)
+    requires { ⌜ (count * 4 ≤ length (now marks)) × (j < 4) ⌝ }
+    ensures { λ _. ⌜ now (marks .exit) ≡ marked (λ _. v) j count (now (marks .entry)) ⌝ }
+{
     let mut i = 0;
     while i < count {
-        marks[i * 4 + 2] = none;
+        marks[i * 4 + j] = v;
         i += 1;
     }
 }
 
-// Writes the hash of rule i's name into its mark, and links it before the rules after it.
-fn index_name(rules: &[u32], text: &[u8], marks: &mut [u32], i: usize)
-    requires { ⌜ NamesInside (now rules) (length (now text)) ⌝ }
-    requires { ⌜ length (now rules) / 4 < 65536 ⌝ }
-    requires { ⌜ i < length (now rules) / 4 ⌝ }
-    requires { ⌜ Indexed (i + 1) (now rules) (now text) (now marks) ⌝ }
-    ensures { λ _. ⌜ Indexed i (now (rules .entry)) (now (text .entry)) (now (marks .exit)) ⌝ }
-{
-    let at = i * 4;
-    let hash = hash_bytes(text, wide(rules[at]), wide(rules[at + 1]));
-    marks[at] = hash;
-    link(marks, i, wide(hash) % (rules.len() / 4));
-}
-
-// Writes the hash of each rule's name into its mark, and links the rules.
-pub fn index_names(rules: &[u32], text: &[u8], marks: &mut [u32])
-    requires { ⌜ NamesInside (now rules) (length (now text)) ⌝ }
-    requires { ⌜ length (now rules) / 4 * 4 ≤ length (now marks) ⌝ }
-    requires { ⌜ length (now rules) / 4 < 65536 ⌝ }
-    ensures { λ _. ⌜ Hashed (now (rules .entry)) (now (text .entry)) (now (marks .exit)) ⌝ }
+// Empties the index.
+fn clear(rules: &[u32], text: &[u8], marks: &mut [u32])
+    requires { ⌜ (length (now rules) / 4 * 4 ≤ length (now marks)) × (length (now rules) / 4 < 32768) ⌝ }
+    ensures { λ _. ⌜ Indexed 0 (now (rules .entry)) (now (text .entry)) (now (marks .exit)) ⌝ }
 {
     let count = rules.len() / 4;
-    clear_heads(count, marks);
-    let mut i = count;
-    while i > 0 {
-        i -= 1;
-        index_name(rules, text, marks, i);
+    let none = halves(count, count);
+    fill(count, marks, 0, none);
+    fill(count, marks, 2, none);
+}
+
+// Makes the index of all names: false where two are the same.
+pub fn index_names(rules: &[u32], text: &[u8], marks: &mut [u32]) -> bool
+    requires { ⌜ NamesInside (now rules) (length (now text)) ⌝ }
+    requires { ⌜ length (now rules) / 4 * 4 ≤ length (now marks) ⌝ }
+    requires { ⌜ (length (now rules) / 4 < 32768) × (length (now text) ≤ 65536) ⌝ }
+    ensures { λ b. ⌜ NamesAnswer b (now (rules .entry)) (now (text .entry)) (now (marks .exit)) ⌝ }
+{
+    let count = rules.len() / 4;
+    clear(rules, text, marks);
+    let mut i = 0;
+    while i < count {
+        if !index_name(rules, text, marks, i) {
+            return false;
+        }
+        i += 1;
     }
+    true
 }
 
 // Writes the end of each rule's rows into its mark.
@@ -149,40 +350,7 @@ pub fn has_name(rules: &[u32], text: &[u8], i: usize, text2: &[u8], x: usize, n:
     rows::same_bytes(text, wide(rules[at]), text2, x, n)
 }
 
-// The first of m rules named by n bytes at x of another text, whose hash is given: along its bucket, hashes before lengths before bytes.
-pub fn find_below(
-    rules: &[u32],
-    text: &[u8],
-    marks: &[u32],
-    m: usize,
-    hash: u32,
-    text2: &[u8],
-    x: usize,
-    n: usize,
-) -> Found
-    requires { ⌜ Hashed (now rules) (now text) (now marks) ⌝ }
-    requires { ⌜ m ≤ length (now rules) / 4 ⌝ }
-    requires { ⌜ x + n ≤ length (now text2) ⌝ }
-    requires { ⌜ hash ≡ hashOf (bytesAt (now text2) (x, n)) ⌝ }
-    ensures { λ r. ⌜ Finds m (now (rules .entry)) (now (text .entry)) (bytesAt (now (text2 .entry)) (x, n)) r ⌝ }
-{
-    if m == 0 {
-        return Found::Nothing;
-    }
-    let bucket = wide(hash) % (rules.len() / 4);
-    let mut i = lower(marks[bucket * 4 + 2]);
-    while i < m {
-        if marks[i * 4] == hash {
-            if has_name(rules, text, i, text2, x, n) {
-                return Found::At(i);
-            }
-        }
-        i = upper(marks[i * 4 + 2]);
-    }
-    Found::Nothing
-}
-
-// The first rule with the name of n bytes at x of another text.
+// The rule with the name of n bytes at x of another text.
 pub fn find_rule(
     rules: &[u32],
     text: &[u8],
@@ -195,8 +363,36 @@ pub fn find_rule(
     requires { ⌜ x + n ≤ length (now text2) ⌝ }
     ensures { λ r. ⌜ Finds (length (now (rules .entry)) / 4) (now (rules .entry)) (now (text .entry)) (bytesAt (now (text2 .entry)) (x, n)) r ⌝ }
 {
-    let hash = hash_bytes(text2, x, n);
-    find_below(rules, text, marks, rules.len() / 4, hash, text2, x, n)
+    let count = rules.len() / 4;
+    if count == 0 {
+        return Found::Nothing;
+    }
+    let i = spot_of(rules, text, marks, text2, x, n).holds;
+    if i == count {
+        return Found::Nothing;
+    }
+    if has_name(rules, text, i, text2, x, n) {
+        Found::At(i)
+    } else {
+        Found::Nothing
+    }
+}
+
+// The same where the name is known to be a rule's: no name is compared.
+pub fn find_known(
+    rules: &[u32],
+    text: &[u8],
+    marks: &[u32],
+    text2: &[u8],
+    x: usize,
+    n: usize,
+) -> usize
+    requires { ⌜ Hashed (now rules) (now text) (now marks) ⌝ }
+    requires { ⌜ x + n ≤ length (now text2) ⌝ }
+    requires { ⌜ IsName (now rules) (now text) (bytesAt (now text2) (x, n)) ⌝ }
+    ensures { λ i. ⌜ First (length (now (rules .entry)) / 4) (now (rules .entry)) (now (text .entry)) (bytesAt (now (text2 .entry)) (x, n)) i ⌝ }
+{
+    spot_of(rules, text, marks, text2, x, n).holds
 }
 
 // Whether the n bytes at x are these.

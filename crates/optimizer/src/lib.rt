@@ -90,7 +90,6 @@ fn run(
     marks: &mut [u32],
 ) -> Answer
     requires { ⌜ Ready (now rules) (now rows) (now text) (now marks) ⌝ }
-    requires { ⌜ 1024 ≤ length (now marks) ⌝ }
     requires { ⌜ AtLeast (now «out_rules») (now «out_rows») (now «out_text») ⌝ }
     requires { ⌜ Works (now «a_rules») (now «a_rows») (now «a_text») (now «b_rules») (now «b_rows») (now «b_text») ⌝ }
     ensures { λ r. ⌜ ((t : Table Span) → Lent t (now (rules .entry)) (now (rows .entry)) → seen r (lent (now («out_rules» .exit)) (now («out_rows» .exit)) (now («out_text» .exit))) ≡ answer (lent (now («out_rules» .entry)) (now («out_rows» .entry)) (now («out_text» .entry))) (finish (stages (resolveTable (now (text .entry)) t)))) ⌝ }

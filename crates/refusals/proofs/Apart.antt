@@ -3,18 +3,17 @@ use mathlib.Core.Path.{_≡_, refl, sym, ap, ap₂, _∙_}
 use mathlib.Core.Bool.{false≢true, Bool, true, false, _||_}
 use mathlib.Core.List.{List, [], _∷_}
 use mathlib.Core.Option.{some}
-use Prim.Native.Nat.{ℕ, zero, suc, _<_}
+use Prim.Native.Nat.{ℕ, zero, suc, _/_, _<_}
 use native.Mathlib.Omega.{arith}
-use lib.ListN.{getElem?}
+use lib.ListN.{length, getElem?}
 use Rattle.grammar.specs.Basic.{Bytes, any, sameBytes, member}
 use Rattle.grammar.specs.Rows.{Span}
 use Rattle.grammar.specs.Text.{bytesAt}
 use Rattle.grammar.specs.Table.{Rule, Table, ruleWords, resolveTable}
 use Rattle.grammar.specs.Refusals.{reserved, repeated, names, badNames}
 use Rattle.grammar.proofs.Logic.{eq-sameBytes, none-some, some-eq}
-use Rattle.names.specs.Names.{nameOf, First, Finds}
-use Rattle.names.specs.declared.Found.{Found}
-use Rattle.names.specs.declared.Found.the-variants.{At, Nothing}
+use Rattle.names.specs.Names.{nameOf, Hashed, Twice}
+use Rattle.names.proofs.Index.{names-apart}
 use Rattle.names.proofs.Finding.{differ, There, there, inside-table, name-is, rule-count}
 use Rattle.refusals.specs.Bytes.{NameFree, NamesFine}
 use Rattle.refusals.proofs.Fours.{neither-left, neither-right}
@@ -87,14 +86,9 @@ module _ (text : Bytes) where
       }
 
 -- what a search among the earlier rules tells of a rule's name
-module _ (rules : List ℕ) (text : Bytes) (i : ℕ) (key : Bytes) (same : key ≡ nameOf rules text i) where
-  pub free-not : (f : Found) (j : ℕ) → Finds i rules text key f → f ≡ At j → NameFree rules text i → ⊥
-  free-not f j h e n = let g : First i rules text key j = rw e at h in n .apart j (g .below) (g .same ∙ same)
+-- the names of an index are apart, so that it is enough that none is reserved
+pub indexed-fine : {rules : List ℕ} {text : Bytes} {m : List ℕ} → Hashed rules text m → ((i : ℕ) → i < length rules / 4 → member (nameOf rules text i) reserved ≡ false) → NamesFine rules text
+indexed-fine h f = λ i l. record { free = f i l; apart = λ j b e. names-apart h j i b l e }
 
-  pub free-is : (f : Found) → Finds i rules text key f → f ≡ Nothing → member key reserved ≡ false → NameFree rules text i
-  free-is f h e m =
-      let g : (j : ℕ) → j < i → nameOf rules text j ≡ key → ⊥ = rw e at h in
-      record { free = ap (λ (x : Bytes). member x reserved) (sym same) ∙ m; apart = λ j l q. g j l (q ∙ sym same) }
-
-  pub free-reserved : (b : Bool) → b ≡ member key reserved → b ≡ true → NameFree rules text i → ⊥
-  free-reserved b e t n = false≢true (sym (ap (λ (x : Bytes). member x reserved) same ∙ n .free) ∙ sym e ∙ t)
+pub twice-not : {rules : List ℕ} {text : Bytes} → Twice rules text → NamesFine rules text → ⊥
+twice-not t f = f (t .second) (t .there) .apart (t .first) (t .order) (t .same)

@@ -1,16 +1,16 @@
 // Refusals 2 to 6 of a lent table: the lowest that holds, for any words and any text.
 ghost use mathlib.Core.Path.{_≡_};
-ghost use mathlib.Core.Bool.{_||_};
+ghost use mathlib.Core.Bool.{false, _||_};
 ghost use Prim.Native.Nat.{ℕ, _+_, _-_, _*_, _/_, _%_, _^_, _≤_, _<_};
 ghost use lib.ListN.{length, take, drop, getD};
 ghost use lib.Dec.{eqb};
-ghost use Rattle.grammar.specs.Refusals.{badCounts, badSpan};
+ghost use Rattle.grammar.specs.Basic.{member};
+ghost use Rattle.grammar.specs.Refusals.{badCounts, badSpan, reserved};
 ghost use Rattle.rows.specs.Rows.{Tells, kindAt};
-ghost use Rattle.names.specs.Names.{rowsBefore, NamesInside, Hashed};
+ghost use Rattle.names.specs.Names.{nameOf, rowsBefore, NamesInside};
 ghost use Rattle.refusals.specs.Local.{upTo, usesX, usesY, unusedZero, OneFits, TwoFits, SkipFits, RowFits, IsTree, IsTable};
-ghost use Rattle.refusals.specs.Bytes.{anyFour, badName, badRow, zeroRow, High, Indexed, NameFree, NamesFine};
+ghost use Rattle.refusals.specs.Bytes.{anyFour, badName, badRow, zeroRow, High, Indexed};
 ghost use Rattle.refusals.specs.Check.{lent, NamesChecked, Checked};
-use names::Found;
 use rows::Lookup;
 use rows::Shape;
 use rows::wide;
@@ -405,33 +405,25 @@ pub fn bad_text(rules: &[u32], rows: &[u32], text: &[u8], marks: &mut [u32]) -> 
 
 // ---- refusal 5
 
-// Whether rule i's name is free: not reserved, and no earlier rule's.
-fn name_free(rules: &[u32], text: &[u8], marks: &[u32], i: usize) -> bool
-    requires { ⌜ Hashed (now rules) (now text) (now marks) ⌝ }
+// Whether rule i's name is reserved.
+fn name_reserved(rules: &[u32], text: &[u8], i: usize) -> bool
+    requires { ⌜ NamesInside (now rules) (length (now text)) ⌝ }
     requires { ⌜ i < length (now rules) / 4 ⌝ }
-    ensures { λ r. ⌜ Tells r (NameFree (now (rules .entry)) (now (text .entry)) i) ⌝ }
+    ensures { λ r. ⌜ r ≡ member (nameOf (now (rules .entry)) (now (text .entry)) i) reserved ⌝ }
 {
     let at = i * 4;
-    let x = wide(rules[at]);
-    let n = wide(rules[at + 1]);
-    if names::reserved(text, x, n) {
-        return false;
-    }
-    match names::find_below(rules, text, marks, i, marks[at], text, x, n) {
-        Found::At(_) => false,
-        Found::Nothing => true,
-    }
+    names::reserved(text, wide(rules[at]), wide(rules[at + 1]))
 }
 
-// Refusal 5 does not hold: no name is reserved, and no two are equal.
-pub fn names_fine(rules: &[u32], text: &[u8], marks: &[u32]) -> bool
-    requires { ⌜ Hashed (now rules) (now text) (now marks) ⌝ }
-    ensures { λ r. ⌜ Tells r (NamesFine (now (rules .entry)) (now (text .entry))) ⌝ }
+// Whether no name is reserved.
+fn none_reserved(rules: &[u32], text: &[u8]) -> bool
+    requires { ⌜ NamesInside (now rules) (length (now text)) ⌝ }
+    ensures { λ r. ⌜ Tells r ((i : ℕ) → i < length (now (rules .entry)) / 4 → member (nameOf (now (rules .entry)) (now (text .entry)) i) reserved ≡ false) ⌝ }
 {
     let count = rules.len() / 4;
     let mut i = 0;
     while i < count {
-        if !name_free(rules, text, marks, i) {
+        if name_reserved(rules, text, i) {
             return false;
         }
         i += 1;
@@ -479,14 +471,16 @@ pub fn zero_counts(rows: &[u32]) -> bool
 
 // ---- the check
 
-// Refusals 5 and 6 of a table that can be read and whose names and literals are right. The marks then hold the names' hashes and the rules' ends.
+// Refusals 5 and 6 of a table that can be read and whose names and literals are right. The marks then hold the index of names and the rules' ends.
 fn check_names(rules: &[u32], rows: &[u32], text: &[u8], marks: &mut [u32]) -> Verdict
     requires { ⌜ NamesInside (now rules) (length (now text)) ⌝ }
-    requires { ⌜ (length (now rules) / 4 * 4 ≤ length (now marks)) × (length (now rules) / 4 < 65536) × (rowsBefore (now rules) (length (now rules) / 4) < 2 ^ 32) ⌝ }
+    requires { ⌜ (length (now rules) / 4 * 4 ≤ length (now marks)) × (length (now rules) / 4 < 32768) × (length (now text) ≤ 65536) × (rowsBefore (now rules) (length (now rules) / 4) < 2 ^ 32) ⌝ }
     ensures { λ v. ⌜ NamesChecked v (now (rules .entry)) (now (rows .entry)) (now (text .entry)) (now (marks .exit)) ⌝ }
 {
-    names::index_names(rules, text, marks);
-    if !names_fine(rules, text, marks) {
+    if !names::index_names(rules, text, marks) {
+        return Verdict::Refused(5);
+    }
+    if !none_reserved(rules, text) {
         return Verdict::Refused(5);
     }
     if zero_counts(rows) {
@@ -496,9 +490,9 @@ fn check_names(rules: &[u32], rows: &[u32], text: &[u8], marks: &mut [u32]) -> V
     Verdict::Fine
 }
 
-// Refusals 2 to 6: the lowest that holds. Where none does, a table stands there, and the marks hold its names' hashes and its rules' ends.
-// Each row is read three times, each byte once or twice, each hash compared in its bucket, and a literal past a byte above 127 costs at most 64
-// bytes more. The worst input has 256 names of 65,000 bytes that share their text, each hashed once: 63 million instructions.
+// Refusals 2 to 6: the lowest that holds. Where none does, a table stands there, and the marks hold the index of its names and its rules' ends.
+// Each row is read three times, each byte once or twice, each name compared with one other, and a literal past a byte above 127 costs at most 64
+// bytes more.
 pub fn check(rules: &[u32], rows: &[u32], text: &[u8], marks: &mut [u32]) -> Verdict
     requires { ⌜ 1024 ≤ length (now marks) ⌝ }
     ensures { λ v. ⌜ Checked v (lent (now (rules .entry)) (now (rows .entry)) (now (text .entry))) (now (marks .exit)) ⌝ }

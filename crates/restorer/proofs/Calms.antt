@@ -7,7 +7,7 @@ use Prim.Native.Nat.{ℕ, zero, suc, _-_, _/_, _<_}
 use native.Mathlib.Omega.{arith}
 use lib.ListN.{length, getElem?}
 use Rattle.grammar.specs.Basic.{Bytes, member, sameBytes}
-use Rattle.grammar.specs.Tree.{Ident, Expr, E, lit}
+use Rattle.grammar.specs.Tree.{Expr, E}
 use Rattle.grammar.specs.Rows.{Span}
 use Rattle.grammar.specs.Text.{bytesAt, resolve}
 use Rattle.grammar.specs.Table.{Rule, Table, ruleWords, rowWords, resolveTable, find}

@@ -21,7 +21,7 @@ use Rattle.writing.proofs.Runs.{length-stored}
 use Rattle.writing.proofs.Trees.{fits-un}
 use Rattle.chains.specs.Runs.{ups, low}
 use Rattle.chains.proofs.Runs.{low-not, low-at}
-use Rattle.restorer.specs.Restores.{isGuard, guardedIf, climbed, Shown, RestoredAnswer, Over, NodePut, NodeAnswer, OverAnswer, Becomes, Climbable}
+use Rattle.restorer.specs.Restores.{isGuard, guardedIf, climbed, Shown, RestoredAnswer, Over, NodeAnswer, OverAnswer, Becomes, Climbable}
 use Rattle.restorer.specs.declared.Restored.{Restored}
 use Rattle.restorer.specs.declared.Restored.the-variants.{To, Full}
 use Rattle.restorer.proofs.Showing.{restore-un, guarded-not, fits-guarded}

@@ -4,6 +4,7 @@ pub mod Marks
 pub mod Runs
 pub mod Visits
 pub mod Ends
+pub mod Looks
 pub mod Showing
 pub mod Restores
 pub mod Climbs

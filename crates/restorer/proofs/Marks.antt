@@ -1,11 +1,12 @@
--- Marks in words: one memory is written, and what is lent stays lent. Assumes nothing.
-use mathlib.Core.Path.{_≡_, refl, sym, ap, _∙_}
+-- Marks in words: memories are written, with the stack of rules that are not settled, and what is lent stays lent. Assumes nothing.
+use mathlib.Core.Path.{_≡_, refl, sym, ap, _∙_, subst}
 use mathlib.Core.Bool.{Bool, true, false, cond}
-use mathlib.Core.List.{List, [], _∷_}
+use mathlib.Core.List.{List}
 use Prim.Native.Nat.{ℕ, zero, suc, _+_, _-_, _*_, _/_, _≤_, _<_}
 use native.Mathlib.Omega.{arith}
 use lib.ListN.{length, getD, set}
-use lib.Seq.{getD-set-other}
+use lib.Seq.{getD-set-same, getD-set-other}
+use native.Mathlib.Decide.{ℕ-discrete, decLt}
 use lib.Dec.{eqb}
 use Rattle.grammar.specs.Basic.{Bytes}
 use Rattle.grammar.specs.Tree.{size}
@@ -15,20 +16,30 @@ use Rattle.grammar.proofs.Logic.{eqb-eq}
 use Rattle.rows.specs.Rows.{At}
 use Rattle.rows.proofs.Laws.{root, size-pos}
 use Rattle.names.specs.Names.{Ended}
-use Rattle.names.proofs.Chains.{hashed-kept}
+use Rattle.names.proofs.Index.{hashed-kept}
 use Rattle.names.proofs.Finding.{There, there, rule-count, rule-words, body-at}
-use Rattle.restorer.specs.Lends.{Lent, Given, zeros, Steady, Ran, TreeRows}
+use Rattle.restorer.specs.Search.{stateOf}
+use Rattle.restorer.specs.Lends.{Lent, Given, Steady, TreeRows}
+use Rattle.restorer.specs.Stacks.{unseen, Stacked, Ran, Closes}
 use Rattle.restorer.proofs.Memories.{length-resolved}
 
--- ---- how many words are 0
+-- ---- one memory is written
 
-abbrev pub isZero : ℕ → ℕ
+pub record Sets (m m′ : List ℕ) (i v : ℕ) : Type 0 where
+  pub here : stateOf m′ i ≡ v
+  pub others : (j : ℕ) → (j ≡ i → ⊥) → stateOf m′ j ≡ stateOf m j
+
+pub sets-state : (m : List ℕ) (i v : ℕ) → i * 4 + 1 < length m → Sets m (set m (i * 4 + 1) v) i v
+sets-state m i v h =
+    record {
+      here = getD-set-same m (i * 4 + 1) v 0 h;
+      others = λ j n. getD-set-other m (i * 4 + 1) (j * 4 + 1) v 0 (λ e. n (omega arith));
+    }
+
+-- ---- how many rules were not seen
+
+abbrev isZero : ℕ → ℕ
 isZero w = cond (eqb w 0) 1 0
-
-pub zeros-set : (m : List ℕ) (i v : ℕ) → i < length m → zeros (set m i v) + isZero (getD m i 0) ≡ zeros m + isZero v
-zeros-set [] i v h = absurd (omega arith)
-zeros-set (w ∷ m) zero v h = omega arith
-zeros-set (w ∷ m) (suc i) v h = let l : i < length m = omega arith in omega (arith, zeros-set m i v l)
 
 not-zero : (v : ℕ) → 1 ≤ v → isZero v ≡ 0
 not-zero v h = go (eqb v 0) refl
@@ -37,28 +48,146 @@ not-zero v h = go (eqb v 0) refl
     go true e = absurd (omega (arith, eqb-eq v 0 e))
     go false e = refl
 
--- a rule that was not seen is seen
-pub zeros-less : (m : List ℕ) (i v : ℕ) → i < length m → 1 ≤ v → getD m i 0 ≡ 0 → zeros (set m i v) + 1 ≡ zeros m
-zeros-less m i v h l z = omega (arith, zeros-set m i v h, not-zero v l, ap isZero z)
+unseen-same : (n : ℕ) (m m′ : List ℕ) → ((i : ℕ) → i < n → stateOf m′ i ≡ stateOf m i) → unseen n m′ ≡ unseen n m
+unseen-same zero m m′ f = refl
+unseen-same (suc n) m m′ f = omega (arith, ap isZero (f n (omega arith)), unseen-same n m m′ (λ i l. f i (omega arith)))
+
+module _ {m m′ : List ℕ} {i v : ℕ} (s : Sets m m′ i v) (l : 1 ≤ v) where
+  unseen-sets : (n : ℕ) → i < n → unseen n m′ + isZero (stateOf m i) ≡ unseen n m
+  unseen-sets zero h = absurd (omega arith)
+  unseen-sets (suc n) h = go (ℕ-discrete n i) (unseen-sets n)
+    where
+      go : Dec (n ≡ i) → (i < n → unseen n m′ + isZero (stateOf m i) ≡ unseen n m) → isZero (stateOf m′ n) + unseen n m′ + isZero (stateOf m i) ≡ isZero (stateOf m n) + unseen n m
+      go (yes e) ih = omega (arith, not-zero (stateOf m′ n) (omega (arith, ap (stateOf m′) e, s .here)), ap (λ (j : ℕ). isZero (stateOf m j)) e, unseen-same n m m′ (λ j b. s .others j (λ q. absurd (omega arith))))
+      go (no e) ih = omega (arith, ap isZero (s .others n e), ih (omega arith))
+
+pub unseen-most : (n : ℕ) (m : List ℕ) → unseen n m ≤ n
+unseen-most zero m = omega arith
+unseen-most (suc n) m = go (eqb (stateOf m n) 0) (unseen-most n m)
+  where
+    go : (b : Bool) → unseen n m ≤ n → cond b 1 0 + unseen n m ≤ suc n
+    go true l = omega arith
+    go false l = omega arith
+
+-- ---- the stack of rules
+
+pub stack-top : {n : ℕ} {m st : List ℕ} {top i : ℕ} → Stacked n m st top → i < n → stateOf m i < 4 + top
+stack-top {n} {m} {st} {top} {i} s h = go (decLt (stateOf m i) 4)
+  where
+    go : Dec (stateOf m i < 4) → stateOf m i < 4 + top
+    go (yes k) = omega arith
+    go (no k) = let e : stateOf m i ≡ 4 + (stateOf m i - 4) = omega arith in omega (arith, s .back i (stateOf m i - 4) h e .0)
+
+module _ {n : ℕ} {m m′ st : List ℕ} {top i : ℕ} (s : Stacked n m st top) (h : i < n) (z : stateOf m i ≡ 0) (w : Sets m m′ i (4 + top)) where
+  pub pushed-less : unseen n m′ + 1 ≡ unseen n m
+  pushed-less = omega (arith, unseen-sets w (omega arith) n h, ap isZero z)
+
+  pub pushed : top < length st → Stacked n m′ (set st top i) (top + 1)
+  pushed long = record { below = λ p l. below p l (ℕ-discrete p top); place = λ p l. place p l (ℕ-discrete p top); back = λ j p l e. back j p l e (ℕ-discrete j i); room = omega (arith, s .room, pushed-less) }
+    where
+      here : getD (set st top i) top 0 ≡ i
+      here = getD-set-same st top i 0 long
+
+      under : (p : ℕ) → (p ≡ top → ⊥) → getD (set st top i) p 0 ≡ getD st p 0
+      under p k = getD-set-other st top p i 0 k
+
+      below : (p : ℕ) → p < top + 1 → Dec (p ≡ top) → getD (set st top i) p 0 < n
+      below p l (yes e) = omega (arith, ap (λ (q : ℕ). getD (set st top i) q 0) e, here)
+      below p l (no k) = omega (arith, under p k, s .below p (omega arith))
+
+      place : (p : ℕ) → p < top + 1 → Dec (p ≡ top) → stateOf m′ (getD (set st top i) p 0) ≡ 4 + p
+      place p l (yes e) = omega (arith, ap (λ (q : ℕ). stateOf m′ (getD (set st top i) q 0)) e, ap (stateOf m′) here, w .here)
+      place p l (no k) =
+          let e = s .place p (omega arith) in
+          ap (stateOf m′) (under p k) ∙ w .others (getD st p 0) (λ q. absurd (omega (arith, ap (stateOf m) q, e))) ∙ e
+
+      back : (j p : ℕ) → j < n → stateOf m′ j ≡ 4 + p → Dec (j ≡ i) → (p < top + 1) × (getD (set st top i) p 0 ≡ j)
+      back j p l e (yes k) =
+          let q : p ≡ top = omega (arith, ap (stateOf m′) k, w .here) in
+          (omega arith, ap (λ (v : ℕ). getD (set st top i) v 0) q ∙ here ∙ sym k)
+      back j p l e (no k) =
+          let b = s .back j p l (sym (w .others j k) ∙ e) in
+          (omega (arith, b .0), under p (λ q. absurd (omega (arith, b .0))) ∙ b .1)
+
+-- none is closed yet
+pub closes-none : {n : ℕ} {m st : List ℕ} {top to : ℕ} → Stacked n m st top → Closes n m m st top to
+closes-none s = record { stacked = s; turned = λ i l h. absurd (omega (arith, stack-top s l)); kept = λ i l h. refl; fewer = omega arith }
+
+-- one more is closed
+pub closes-next : {n : ℕ} {m m₁ m₂ st : List ℕ} {p to : ℕ} → Closes n m m₁ st (p + 1) to → Sets m₁ m₂ (getD st p 0) to → 1 ≤ to → to < 4 → Closes n m m₂ st p to
+closes-next {n} {m} {m₁} {m₂} {st} {p} {to} c w lo hi =
+    record {
+      stacked = record {
+        below = λ q l. s .below q (omega arith);
+        place = λ q l. let e = s .place q (omega arith) in w .others (getD st q 0) (λ k. absurd (omega (arith, ap (stateOf m₁) k, e, at))) ∙ e;
+        back = λ j q l e. back j q l e (ℕ-discrete j k);
+        room = omega (arith, s .room, less);
+      };
+      turned = λ j l e. turned j l e (ℕ-discrete j k);
+      kept = λ j l e. let q = c .kept j l (omega arith) in w .others j (λ r. absurd (omega (arith, ap (stateOf m₁) r, at, q))) ∙ q;
+      fewer = omega (arith, less, c .fewer);
+    }
+  where
+    s : Stacked n m₁ st (p + 1)
+    s = c .stacked
+
+    k : ℕ
+    k = getD st p 0
+
+    at : stateOf m₁ (getD st p 0) ≡ 4 + p
+    at = s .place p (omega arith)
+
+    less : unseen n m₂ ≤ unseen n m₁
+    less = omega (arith, unseen-sets w lo n (s .below p (omega arith)))
+
+    back : (j q : ℕ) → j < n → stateOf m₂ j ≡ 4 + q → Dec (j ≡ getD st p 0) → (q < p) × (getD st q 0 ≡ j)
+    back j q l e (yes r) = absurd (omega (arith, ap (stateOf m₂) r, w .here))
+    back j q l e (no r) =
+        let b = s .back j q l (sym (w .others j r) ∙ e) in
+        (under (ℕ-discrete q p) b, b .1)
+      where
+        under : Dec (q ≡ p) → (q < p + 1) × (getD st q 0 ≡ j) → q < p
+        under (yes v) b = absurd (r (sym (b .1) ∙ ap (λ (u : ℕ). getD st u 0) v))
+        under (no v) b = omega (arith, b .0)
+
+    turned : (j : ℕ) → j < n → 4 + p ≤ stateOf m j → Dec (j ≡ getD st p 0) → stateOf m₂ j ≡ to
+    turned j l e (yes r) = ap (stateOf m₂) r ∙ w .here
+    turned j l e (no r) = w .others j r ∙ go (ℕ-discrete (stateOf m j) (4 + p))
+      where
+        go : Dec (stateOf m j ≡ 4 + p) → stateOf m₁ j ≡ to
+        go (yes v) = absurd (r (sym (s .back j p l (c .kept j l (omega arith) ∙ v) .1)))
+        go (no v) = c .turned j l (omega arith)
+
+-- the rules from position p to `top` are closed
+pub record Closing (m m′ st : List ℕ) (from top to p : ℕ) : Type 0 where
+  pub low : from ≤ p
+  pub high : p ≤ top
+  pub long : length m′ ≡ length m
+  pub steady : Steady m m′
+  pub closes : (n : ℕ) → Stacked n m st top → Closes n m m′ st p to
+
+pub closing-next : {m m₁ st : List ℕ} {top p to i : ℕ} → 1 ≤ p → i ≡ getD st (p - 1) 0 → i * 4 + 1 < length m₁ → 1 < to → to < 4 → ((n : ℕ) → Stacked n m st top → Closes n m m₁ st p to) → (n : ℕ) → Stacked n m st top → Closes n m (set m₁ (i * 4 + 1) to) st (p - 1) to
+closing-next {m} {m₁} {st} {top} {p} {to} {i} h e l lo hi f n s =
+    let k : p ≡ p - 1 + 1 = omega arith in
+    closes-next (subst (λ (q : ℕ). Closes n m m₁ st q to) k (f n s)) (subst (λ (j : ℕ). Sets m₁ (set m₁ (i * 4 + 1) to) j to) e (sets-state m₁ i to l)) (omega arith) hi
 
 -- ---- nothing but memories is changed
 
-pub ran-none : (m : List ℕ) → Ran m m
-ran-none m = record { steady = record { hash = λ i. refl; chain = λ i. refl; end = λ i. refl }; fewer = omega arith }
+pub steady-none : (m : List ℕ) → Steady m m
+steady-none m = record { hash = λ i. refl; chain = λ i. refl; end = λ i. refl }
 
-pub ran-more : {m m₁ m₂ : List ℕ} → Ran m m₁ → Ran m₁ m₂ → Ran m m₂
-ran-more a b =
-    record {
-      steady = record { hash = λ i. b .steady .hash i ∙ a .steady .hash i; chain = λ i. b .steady .chain i ∙ a .steady .chain i; end = λ i. b .steady .end i ∙ a .steady .end i };
-      fewer = omega (arith, a .fewer, b .fewer);
-    }
+pub steady-more : {m m₁ m₂ : List ℕ} → Steady m m₁ → Steady m₁ m₂ → Steady m m₂
+steady-more a b = record { hash = λ i. b .hash i ∙ a .hash i; chain = λ i. b .chain i ∙ a .chain i; end = λ i. b .end i ∙ a .end i }
 
-pub ran-set : (m : List ℕ) (i v : ℕ) → i * 4 + 1 < length m → 1 ≤ v → Ran m (set m (i * 4 + 1) v)
-ran-set m i v h l =
-    record {
-      steady = record { hash = λ j. getD-set-other m (i * 4 + 1) (j * 4) v 0 (λ e. omega arith); chain = λ j. getD-set-other m (i * 4 + 1) (j * 4 + 2) v 0 (λ e. omega arith); end = λ j. getD-set-other m (i * 4 + 1) (j * 4 + 3) v 0 (λ e. omega arith) };
-      fewer = omega (arith, zeros-set m (i * 4 + 1) v h, not-zero v l);
-    }
+pub steady-set : (m : List ℕ) (i v : ℕ) → Steady m (set m (i * 4 + 1) v)
+steady-set m i v =
+    record { hash = λ j. getD-set-other m (i * 4 + 1) (j * 4) v 0 (λ e. omega arith); chain = λ j. getD-set-other m (i * 4 + 1) (j * 4 + 2) v 0 (λ e. omega arith); end = λ j. getD-set-other m (i * 4 + 1) (j * 4 + 3) v 0 (λ e. omega arith) }
+
+pub ran-none : {n : ℕ} {m st : List ℕ} {top : ℕ} → Stacked n m st top → Ran n m m st top top
+ran-none {m = m} s = record { steady = steady-none m; fewer = omega arith; grown = omega arith; stacked = s }
+
+pub ran-more : {n : ℕ} {m m₁ m₂ st₁ st₂ : List ℕ} {top high more : ℕ} → Ran n m m₁ st₁ top high → Ran n m₁ m₂ st₂ high more → Ran n m m₂ st₂ top more
+ran-more a b = record { steady = steady-more (a .steady) (b .steady); fewer = omega (arith, a .fewer, b .fewer); grown = omega (arith, a .grown, b .grown); stacked = b .stacked }
 
 pub given-steady : {rules rows : List ℕ} {text : Bytes} {m m′ : List ℕ} → Given rules rows text m → Steady m m′ → length m′ ≡ length m → Given rules rows text m′
 given-steady g s l =

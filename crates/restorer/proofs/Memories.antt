@@ -8,15 +8,16 @@ use Prim.Native.Nat.{ℕ, zero, suc, _+_, _≤_, _<_}
 use native.Mathlib.Nat.{add-zero}
 use native.Mathlib.Omega.{arith}
 use lib.ListN.{length, getElem?}
-use lib.Dec.{eqb}
+use lib.Dec.{eqb, leb}
+use borrow.Author.Tests.{leb-true, le-leb}
 use Rattle.grammar.specs.Basic.{Bytes, member, sameBytes}
 use Rattle.grammar.specs.Tree.{E, Str, Insens, Ident, lit, fixed, skip, un, bin, isUn}
 use Rattle.grammar.specs.Rows.{Span}
 use Rattle.grammar.specs.Text.{bytesAt}
 use Rattle.grammar.specs.Table.{Rule, Table, find, resolveRule, resolveTable}
 use Rattle.grammar.specs.Stack.{stackNames, changesIn}
-use Rattle.grammar.proofs.Logic.{none-some, some-eq, eqb-eq, sameBytes-eq, eq-sameBytes}
-use Rattle.restorer.specs.Search.{stateOf, memoryFrom, memoryOf, isQuiet, loud, Quiet, Right, Searches, Closed}
+use Rattle.grammar.proofs.Logic.{none-some, some-eq, or-right, eqb-eq, sameBytes-eq, eq-sameBytes}
+use Rattle.restorer.specs.Search.{stateOf, memoryFrom, memoryOf, isQuiet, loud, Quiet, Right, Reach, Kept, Searches, Closed, nowhere}
 
 -- ---- a test that fails, in parts
 
@@ -37,23 +38,29 @@ and-no false b d f h = refl
 
 -- ---- quiet states
 
-pub quiet-state : (s : ℕ) → isQuiet s ≡ true → (s ≡ 1) ⊎ (s ≡ 2)
-quiet-state s h = go (eqb s 1) (eqb s 2) refl refl h
+pub quiet-state : (low s : ℕ) → isQuiet low s ≡ true → (s ≡ 2) ⊎ (4 + low ≤ s)
+quiet-state low s h = go (eqb s 2) (leb (4 + low) s) refl refl h
   where
-    go : (a b : Bool) → eqb s 1 ≡ a → eqb s 2 ≡ b → (a || b) ≡ true → (s ≡ 1) ⊎ (s ≡ 2)
-    go true b p q k = inl (eqb-eq s 1 p)
-    go false true p q k = inr (eqb-eq s 2 q)
+    go : (a b : Bool) → eqb s 2 ≡ a → leb (4 + low) s ≡ b → (a || b) ≡ true → (s ≡ 2) ⊎ (4 + low ≤ s)
+    go true b p q k = inl (eqb-eq s 2 p)
+    go false true p q k = inr (leb-true (4 + low) s q)
     go false false p q k = absurd (false≢true k)
 
-pub not-loud : (s : ℕ) → not (isQuiet s) ≡ false → isQuiet s ≡ true
-not-loud s h = go (isQuiet s) h
+pub state-quiet : (low s : ℕ) → (s ≡ 2) ⊎ (4 + low ≤ s) → isQuiet low s ≡ true
+state-quiet low s (inl e) = ap (isQuiet low) e
+state-quiet low s (inr h) = or-right (eqb s 2) (leb (4 + low) s) (le-leb (4 + low) s h)
+
+pub not-loud : (low s : ℕ) → not (isQuiet low s) ≡ false → isQuiet low s ≡ true
+not-loud low s h = go (isQuiet low s) h
   where
     go : (b : Bool) → not b ≡ false → b ≡ true
     go true k = refl
     go false k = absurd (false≢true (sym k))
 
-pub quiet-at : (s v : ℕ) → s ≡ v → isQuiet v ≡ true → isQuiet s ≡ true
-quiet-at s v e h = ap isQuiet e ∙ h
+-- the same memory, with a lower position
+quiet-lower : {low low′ s s′ : ℕ} → s′ ≡ s → low′ ≤ low → (s ≡ 2) ⊎ (4 + low ≤ s) → isQuiet low′ s′ ≡ true
+quiet-lower {low} {low′} {s} {s′} e l (inl h) = state-quiet low′ s′ (inl (e ∙ h))
+quiet-lower {low} {low′} {s} {s′} e l (inr h) = state-quiet low′ s′ (inr (omega arith))
 
 -- ---- a name is that of no rule, or of the first rule that has it
 
@@ -146,47 +153,81 @@ pub length-resolved : (text : Bytes) (t : Table Span) → length (resolveTable t
 length-resolved text [] = refl
 length-resolved text (s ∷ t) = ap suc (length-resolved text t)
 
+pub inside-rule : (t : Table Bytes) (i : ℕ) (r : Rule Bytes) → getElem? t i ≡ some r → i < length t
+inside-rule [] i r h = none-some h
+inside-rule (s ∷ t) zero r h = omega arith
+inside-rule (s ∷ t) (suc i) r h = let l : i < length t = inside-rule t i r h in omega arith
+
 -- ---- quiet stays quiet
 
-module _ (t : Table Bytes) (m m′ : List ℕ) (kept : (i : ℕ) → 1 ≤ stateOf m i → stateOf m′ i ≡ stateOf m i) where
-  quiet-kept : (x : Bytes) → loud t m x ≡ false → loud t m′ x ≡ false
+module _ (f g : Bytes → Bool) (fewer : (x : Bytes) → f x ≡ false → g x ≡ false) where
+  changes-fewer : (e : E) → changesIn f e ≡ false → changesIn g e ≡ false
+  changes-fewer (lit Str x) q = q
+  changes-fewer (lit Insens x) q = q
+  changes-fewer (lit Ident x) q = or-no (member x stackNames) (g x) (or-no-left (member x stackNames) (f x) q) (fewer x (or-no-right (member x stackNames) (f x) q))
+  changes-fewer (fixed h) q = q
+  changes-fewer (skip ss) q = q
+  changes-fewer (un u e) q =
+      or-no (isUn 18 u) (not (isUn 19 u) && changesIn g e) (or-no-left (isUn 18 u) (not (isUn 19 u) && changesIn f e) q)
+      (and-no (not (isUn 19 u)) (changesIn f e) (changesIn g e) (changes-fewer e) (or-no-right (isUn 18 u) (not (isUn 19 u) && changesIn f e) q))
+  changes-fewer (bin b l r) q =
+      or-no (changesIn g l) (changesIn g r) (changes-fewer l (or-no-left (changesIn f l) (changesIn f r) q)) (changes-fewer r (or-no-right (changesIn f l) (changesIn f r) q))
+
+module _ {t : Table Bytes} {m m′ : List ℕ} (kept : Kept t m m′) {low low′ : ℕ} (le : low′ ≤ low) where
+  quiet-kept : (x : Bytes) → loud t m low x ≡ false → loud t m′ low′ x ≡ false
   quiet-kept x h = go (known t x)
     where
-      same : (k : ℕ) → memoryOf t m x ≡ stateOf m k → memoryOf t m′ x ≡ stateOf m′ k → (memoryOf t m x ≡ 1) ⊎ (memoryOf t m x ≡ 2) → memoryOf t m′ x ≡ memoryOf t m x
-      same k e e′ (inl q) = e′ ∙ kept k (omega arith) ∙ sym e
-      same k e e′ (inr q) = e′ ∙ kept k (omega arith) ∙ sym e
+      was : (memoryOf t m x ≡ 2) ⊎ (4 + low ≤ memoryOf t m x)
+      was = quiet-state low (memoryOf t m x) (not-loud low (memoryOf t m x) h)
 
-      go : Unknown t x ⊎ Known t x → loud t m′ x ≡ false
-      go (inl u) = ap (λ (n : ℕ). not (isQuiet n)) (u .memory m′)
-      go (inr u) = ap (λ (n : ℕ). not (isQuiet n)) (same (u .place) (u .memory m) (u .memory m′) (quiet-state (memoryOf t m x) (not-loud (memoryOf t m x) h))) ∙ h
+      seen : (memoryOf t m x ≡ 2) ⊎ (4 + low ≤ memoryOf t m x) → 1 ≤ memoryOf t m x
+      seen (inl q) = omega arith
+      seen (inr q) = omega arith
 
-  pub stays-quiet : (e : E) → Quiet t m e → Quiet t m′ e
-  stays-quiet (lit Str x) q = q
-  stays-quiet (lit Insens x) q = q
-  stays-quiet (lit Ident x) q =
-      or-no (member x stackNames) (loud t m′ x) (or-no-left (member x stackNames) (loud t m x) q) (quiet-kept x (or-no-right (member x stackNames) (loud t m x) q))
-  stays-quiet (fixed f) q = q
-  stays-quiet (skip ss) q = q
-  stays-quiet (un u e) q =
-      or-no (isUn 18 u) (not (isUn 19 u) && changesIn (loud t m′) e) (or-no-left (isUn 18 u) (not (isUn 19 u) && changesIn (loud t m) e) q)
-      (and-no (not (isUn 19 u)) (changesIn (loud t m) e) (changesIn (loud t m′) e) (stays-quiet e) (or-no-right (isUn 18 u) (not (isUn 19 u) && changesIn (loud t m) e) q))
-  stays-quiet (bin b l r) q =
-      or-no (changesIn (loud t m′) l) (changesIn (loud t m′) r) (stays-quiet l (or-no-left (changesIn (loud t m) l) (changesIn (loud t m) r) q)) (stays-quiet r (or-no-right (changesIn (loud t m) l) (changesIn (loud t m) r) q))
+      go : Unknown t x ⊎ Known t x → loud t m′ low′ x ≡ false
+      go (inl u) = ap (λ (n : ℕ). not (isQuiet low′ n)) (u .memory m′)
+      go (inr u) =
+          let l : 1 ≤ stateOf m (u .place) = omega (arith, u .memory m, seen was) in
+          let e : memoryOf t m′ x ≡ memoryOf t m x = u .memory m′ ∙ kept .same (u .place) (inside-rule t (u .place) (u .rule) (u .is)) l ∙ sym (u .memory m) in
+          ap not (quiet-lower e le was)
+
+  pub stays-quiet : (e : E) → Quiet t m low e → Quiet t m′ low′ e
+  stays-quiet e = changes-fewer (loud t m low) (loud t m′ low′) quiet-kept e
 
 -- ---- one search after another
 
-pub searches-none : {t : Table Bytes} {m : List ℕ} → Right t m → Searches t m m
-searches-none r = record { right = r; kept = λ i h. refl }
+pub kept-none : (t : Table Bytes) (m : List ℕ) → Kept t m m
+kept-none t m = record { same = λ i l h. refl }
 
-pub searches-then : {t : Table Bytes} {m m₁ m₂ : List ℕ} → Searches t m m₁ → Searches t m₁ m₂ → Searches t m m₂
-searches-then a b = record { right = b .right; kept = λ i h. b .kept i (omega (arith, a .kept i h)) ∙ a .kept i h }
+pub kept-then : {t : Table Bytes} {m m₁ m₂ : List ℕ} → Kept t m m₁ → Kept t m₁ m₂ → Kept t m m₂
+kept-then a b = record { same = λ i l h. b .same i l (omega (arith, a .same i l h)) ∙ a .same i l h }
 
-pub closed-none : (t : Table Bytes) (m : List ℕ) → Closed t m m
-closed-none t m i r h e q = absurd (omega arith)
+pub searches-none : {t : Table Bytes} {top : ℕ} {m : List ℕ} → Right t m → Searches t top m m
+searches-none {t} {top} {m} r = record { right = r; kept = kept-none t m; was = λ i l h k. refl; spreads = λ f. f }
 
-pub closed-then : (t : Table Bytes) (m m₁ m₂ : List ℕ) → Closed t m m₁ → Searches t m₁ m₂ → Closed t m₁ m₂ → Closed t m m₂
-closed-then t m m₁ m₂ a s b i r h e q = go (stateOf m₁ i) refl
-  where
-    go : (v : ℕ) → stateOf m₁ i ≡ v → Quiet t m₂ (r .body)
-    go zero k = b i r h k q
-    go (suc v) k = let l : 1 ≤ stateOf m₁ i = omega arith in stays-quiet t m₁ m₂ (s .kept) (r .body) (a i r h e (sym (s .kept i l) ∙ q))
+pub searches-then : {t : Table Bytes} {top high : ℕ} {m m₁ m₂ : List ℕ} → top ≤ high → Searches t top m m₁ → Searches t high m₁ m₂ → Searches t top m m₂
+searches-then le a b =
+    record {
+      right = b .right;
+      kept = kept-then (a .kept) (b .kept);
+      was = λ i l h k. let e = b .was i l h (omega arith) in a .was i l (omega (arith, e)) (omega (arith, e)) ∙ e;
+      spreads = λ f. b .spreads (a .spreads f);
+    }
+
+pub closed-none : (t : Table Bytes) (low : ℕ) (m : List ℕ) → Closed t low m m
+closed-none t low m i r h e q = absurd (omega arith)
+
+module _ {t : Table Bytes} {m₁ m₂ : List ℕ} (kept : Kept t m₁ m₂) where
+  pub closed-then : {low low₁ low₂ : ℕ} → low ≤ low₁ → low ≤ low₂ → (m : List ℕ) → Closed t low₁ m m₁ → Closed t low₂ m₁ m₂ → Closed t low m m₂
+  closed-then {low} {low₁} {low₂} le₁ le₂ m a b i r h e q = go (stateOf m₁ i) refl
+    where
+      go : (v : ℕ) → stateOf m₁ i ≡ v → Quiet t m₂ low (r .body)
+      go zero k = stays-quiet (kept-none t m₂) le₂ (r .body) (b i r h k q)
+      go (suc v) k =
+          let l : 1 ≤ stateOf m₁ i = omega arith in
+          let z = kept .same i (inside-rule t i r h) l in
+          stays-quiet kept le₁ (r .body) (a i r h e (omega (arith, z)))
+
+  -- the rule at a position stays there
+  pub leads-then : (low : ℕ) {R : Type 0} → (low < nowhere → Reach t m₁ (λ s. s ≡ 4 + low) → R) → low < nowhere → Reach t m₂ (λ s. s ≡ 4 + low) → R
+  leads-then low a l f = a l (λ i e r h. f i (kept .same i (inside-rule t i r h) (omega arith) ∙ e) r h)

@@ -6,29 +6,29 @@ use Prim.Native.Nat.{ℕ, _+_, _-_, _/_}
 use native.Mathlib.Omega.{arith}
 use lib.ListN.{length}
 use Rattle.grammar.specs.Basic.{Bytes, member}
-use Rattle.grammar.specs.Tree.{Head, Lit, Ident, Un, RestoreOnErr, Bin, Expr, E, lit, un, bin, litKind, unHead, binKind, size}
+use Rattle.grammar.specs.Tree.{Head, Lit, Ident, Un, RestoreOnErr, Bin, Expr, E, lit, un, bin, litKind, unHead, binKind}
 use Rattle.grammar.specs.Rows.{Span}
 use Rattle.grammar.specs.Text.{bytesAt, resolve}
 use Rattle.grammar.specs.Table.{Table}
 use Rattle.grammar.specs.Stack.{stackNames, changes}
 use Rattle.grammar.specs.Steps.{restore}
 use Rattle.rows.specs.Rows.{At, sizeAt, shapeOf}
-use Rattle.rows.specs.declared.Shape.the-variants.{Lit as Lits, Num, One, Two, Skips}
+use Rattle.rows.specs.declared.Shape.the-variants.{Lit as Lits, Num, Two, Skips}
 use Rattle.rows.proofs.Laws.{Found, root, found-size}
 use Rattle.rows.proofs.Cells.{lit-same}
-use Rattle.rows.proofs.Views.{OneView, TwoView, as-lit, as-num, as-one, as-two, as-skip, left-at}
+use Rattle.rows.proofs.Views.{TwoView, as-lit, as-num, as-two, as-skip, left-at}
 use Rattle.writing.specs.Writes.{Areas, RowPut, RowAnswer, LitAnswer, Fits, Written, Answer}
 use Rattle.writing.specs.declared.Place.{Place}
 use Rattle.writing.specs.declared.Wrote.{Wrote}
 use Rattle.writing.specs.declared.Wrote.the-variants.{Done, Full as NoRoom}
 use Rattle.writing.proofs.Puts.{row-done}
-use Rattle.writing.proofs.Trees.{lit-tree, un-tree, bin-tree, done-written, full-not, fits-un, fits-left, fits-right, written-room}
+use Rattle.writing.proofs.Trees.{lit-tree, un-tree, bin-tree, done-written, full-not, fits-left, fits-right, written-room}
 use Rattle.names.specs.Names.{Finds}
 use Rattle.names.specs.declared.Found.{Found as Found′}
 use Rattle.restorer.specs.Restores.{isGuard, guardedIf, showsThrough, saysFound, Sure, RowIs, Shown, RestoredAnswer, Over, NodePut, NodeAnswer}
 use Rattle.restorer.specs.declared.Restored.{Restored}
 use Rattle.restorer.specs.declared.Restored.the-variants.{To, Full}
-use Rattle.restorer.proofs.Showing.{changes-un, changes-bin, changes-lit, changes-fixed, changes-skip, restore-lit, restore-fixed, restore-skip, restore-un, restore-bin, guarded-yes, guarded-no, guarded-not}
+use Rattle.restorer.proofs.Showing.{changes-un, changes-bin, changes-lit, changes-fixed, changes-skip, restore-lit, restore-fixed, restore-skip, restore-bin, guarded-yes, guarded-no, guarded-not}
 
 -- ---- an answer that is known
 
@@ -79,27 +79,6 @@ module _ {q p : Place} {b : Bool} {t : Table Bytes} {e : E} {o o₁ l l₁ : Lis
 
 pub row-is : {w : List ℕ} {i k x y : ℕ} {r : Expr Span} → RowIs w i k x y → At w i r → Found w i k x y (sizeAt w i)
 row-is f a = record { within = root a .inside; kind = f .kind; x = f .first; y = f .second; rows = refl }
-
-pub is-row : {w : List ℕ} {i k x y n : ℕ} → Found w i k x y n → RowIs w i k x y
-is-row f = record { kind = f .kind; first = f .x; second = f .y }
-
--- one child
-module _ {w : List ℕ} {i k x y : ℕ} {r : Expr Span} (f : RowIs w i k x y) (sh : shapeOf k ≡ One) (a : At w i r) where
-  abbrev pub one-view : OneView w i k x y (sizeAt w i) r
-  one-view = as-one (row-is f a) a sh
-
-  module _ (s : Bytes) (t : Table Bytes) (g : Bool) (h : g ≡ isGuard k) where
-    one-is : restore t (resolve s r) ≡ un (one-view .op) (guardedIf t g (restore t (resolve s (one-view .child))))
-    one-is =
-        let v = one-view in
-        let e : g ≡ isGuard (unHead (v .op) .0) = h ∙ ap (λ (z : Head). isGuard (z .0)) (v .head) in
-        ap (λ (z : Expr Span). restore t (resolve s z)) (v .is) ∙ restore-un t (v .op) (resolve s (v .child)) ∙ ap (λ (z : Bool). un (v .op) (guardedIf t z (restore t (resolve s (v .child))))) (sym e)
-
-    pub one-full : {p : Place} {o l : List ℕ} → (Fits p (guardedIf t g (restore t (resolve s (one-view .child)))) o l → ⊥) → Fits p (restore t (resolve s r)) o l → ⊥
-    one-full {p} {o} {l} n z = n (fits-un (subst (λ (e : E). Fits p e o l) one-is z))
-
-    pub one-done : {q p : Place} {b : Bool} {o o₁ l l₁ : List ℕ} (c : Restored) (o₂ : List ℕ) → Shown q p b t (guardedIf t g (restore t (resolve s (one-view .child)))) o o₁ l l₁ → NodeAnswer c p q (k, x, y) b o₁ o₂ → RestoredAnswer c p t (restore t (resolve s r)) o o₂ l l₁
-    one-done c o₂ z n = rw one-is (node-un z c (one-view .op) (k, x, y) o₂ (one-view .head) n)
 
 -- two children
 module _ {w : List ℕ} {i k : ℕ} {r : Expr Span} (f : RowIs w i k 0 0) (sh : shapeOf k ≡ Two) (a : At w i r) where

@@ -169,7 +169,7 @@ module _ {rules rows : List ℕ} (text : Bytes) (t : Table Span) (lent : Lent t 
       go (suc zero) e = absurd (omega (arith, h .done i below))
       go (suc (suc zero)) e = absurd (h .right .no i (resolveRule text (l .rule)) (rule-resolved text t i (l .rule) (l .is)) e reaches)
       go (suc (suc (suc zero))) e = refl
-      go (suc (suc (suc (suc v)))) e = absurd (omega (arith, h .right .states i below))
+      go (suc (suc (suc (suc v)))) e = absurd (omega (arith, h .states i below))
 
   yes-says : (key : Bytes) (f : Found) → Finds (length rules / 4) rules text key f → saysFound m f ≡ true → Reaches (resolveTable text t) (lit Ident key)
   yes-says key Nothing n s = absurd (false≢true s)

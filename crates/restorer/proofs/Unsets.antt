@@ -2,9 +2,9 @@
 use mathlib.Core.Path.{_≡_, refl, sym, ap, ap₂, _∙_}
 use mathlib.Core.Bool.{Bool, true, false, false≢true, _||_}
 use mathlib.Core.List.{List}
-use Prim.Native.Nat.{ℕ, _+_, _-_, _*_, _/_, _≤_, _<_}
+use Prim.Native.Nat.{ℕ, _+_, _-_, _*_, _≤_}
 use native.Mathlib.Omega.{arith}
-use lib.ListN.{length, getD}
+use lib.ListN.{getD}
 use Rattle.grammar.specs.Basic.{Bytes}
 use Rattle.grammar.specs.Tree.{Un, PosPred, NegPred, Opt, Rep, RepOnce, Push, RestoreOnErr, RepExact, RepMin, RepMax, RepMinMax, Bin, Seq, Choice, Expr, E, lit, fixed, skip, un, bin, binKind, unHead, size}
 use Rattle.grammar.specs.Rows.{Span}
@@ -17,9 +17,8 @@ use Rattle.rows.specs.Rows.{At}
 use Rattle.rows.proofs.Laws.{root, at-un, at-left, at-right, size-pos}
 use Rattle.rows.proofs.Views.{at-unique}
 use Rattle.names.proofs.Finding.{There}
-use Rattle.restorer.specs.Search.{stateOf}
 use Rattle.restorer.specs.Lends.{Lent, Settles}
-use Rattle.restorer.specs.Restores.{isGuard, guardedIf, showsThrough, Unset}
+use Rattle.restorer.specs.Restores.{isGuard, guardedIf, showsThrough, SettledNo, Unset}
 use Rattle.restorer.proofs.Memories.{or-no-left, or-no-right, rule-resolved}
 use Rattle.restorer.proofs.Marks.{rule-there, rule-at}
 use Rattle.restorer.proofs.Showing.{changes-un, changes-bin, restore-lit, restore-fixed, restore-skip, restore-un, restore-bin}
@@ -70,18 +69,18 @@ module _ (t : Table Bytes) (s : Bytes) (w : List ℕ) where
       ∙ ap₂ (bin b) (guarded-still t (isGuard (binKind b)) (resolve s l) x) (guarded-still t (isGuard (binKind b)) (resolve s r) y)
 
 -- rule i, which is settled as one through which the stack cannot change, and whose last row is row `last`
-module _ {rules rows : List ℕ} {text : Bytes} {m : List ℕ} (i last : ℕ) (below : i < length rules / 4) (no : stateOf m i ≡ 2) (ends : last + 1 ≡ getD m (i * 4 + 3) 0) (s : Settles rules rows text m) (t : Table Span) (lent : Lent t rules rows) where
+module _ {rules rows : List ℕ} {text : Bytes} {m : List ℕ} (i last : ℕ) (own : SettledNo rules m i last) (s : Settles rules rows text m) (t : Table Span) (lent : Lent t rules rows) where
   body-calm : (h : There t i) → changes (resolveTable text t) (resolve text (h .rule .body)) ≡ false
   body-calm h = go (changes (resolveTable text t) (resolve text (h .rule .body))) refl
     where
       go : (b : Bool) → changes (resolveTable text t) (resolve text (h .rule .body)) ≡ b → b ≡ false
-      go true e = absurd (s .settled t lent .right .no i (resolveRule text (h .rule)) (rule-resolved text t i (h .rule) (h .is)) no (changes-is (resolveTable text t) (resolve text (h .rule .body)) .0 e))
+      go true e = absurd (s .settled t lent .right .no i (resolveRule text (h .rule)) (rule-resolved text t i (h .rule) (h .is)) (own .no) (changes-is (resolveTable text t) (resolve text (h .rule .body)) .0 e))
       go false e = refl
 
   pub restore-no : (r : Expr Span) → At rows last r → Unset rows last (size r) → restore (resolveTable text t) (resolve text r) ≡ resolve text r
   restore-no r a n =
-      let h : There t i = rule-there lent i below in
-      let b : At rows (last + 1 - 1) (h .rule .body) = rule-at lent m i h below (s .ended) (last + 1) (getD rules (i * 4 + 3) 0) ends refl in
+      let h : There t i = rule-there lent i (own .below) in
+      let b : At rows (last + 1 - 1) (h .rule .body) = rule-at lent m i h (own .below) (s .ended) (last + 1) (getD rules (i * 4 + 3) 0) (own .ends) refl in
       let q : last + 1 - 1 ≡ last = omega arith in
       let e : h .rule .body ≡ r = at-unique (h .rule .body) r (rw q at b) a in
       restore-unset (resolveTable text t) text rows r a n (rw e at (body-calm h))

@@ -11,7 +11,7 @@ use Rattle.grammar.specs.Tree.{Str, Insens, Ident, Range, PeekSlice, PeekFrom, 
 use Rattle.grammar.specs.Rows.{Span}
 use Rattle.grammar.specs.Text.{bytesAt, resolve}
 use Rattle.grammar.specs.Table.{Table, resolveRule, resolveTable}
-use Rattle.grammar.specs.Stack.{stackNames, at-push, at-name, through}
+use Rattle.grammar.specs.Stack.{Reaches, stackNames, at-push, at-name, through}
 use Rattle.grammar.proofs.Logic.{eqb-eq, eqb-self}
 use Rattle.rows.specs.Rows.{kindAt, xAt, yAt, sizeAt, At}
 use Rattle.rows.proofs.Laws.{headOf, Found, root, found-size, at-un, at-left, at-right, size-pos}
@@ -21,12 +21,14 @@ use Rattle.names.specs.Names.{nameOf, First, Finds}
 use Rattle.names.specs.declared.Found.{Found as Found′}
 use Rattle.names.specs.declared.Found.the-variants.{At as Sited, Nothing}
 use Rattle.names.proofs.Finding.{Looked, looked, not-found, name-is}
-use Rattle.restorer.specs.Search.{stateOf, memoryOf, isQuiet, loud, Right, Looks}
+use Rattle.restorer.specs.Search.{stateOf, memoryOf, isQuiet, loud, Right, RuleReaches, nowhere, Looked as Answered}
+use Rattle.restorer.specs.declared.Outcome.{Outcome}
+use Rattle.restorer.specs.declared.Outcome.the-variants.{Reached, Silent}
 use Rattle.restorer.specs.Lends.{Lent}
-use Rattle.restorer.specs.Walks.{Run, below, changesAt, pick, stepFrom, recalled, Changing, Passing, Visited, GoesOn, Unseen}
+use Rattle.restorer.specs.Walks.{Run, below, changesAt, pick, stepFrom, positionOf, recalled, AtRoot, Visited, GoesOn, Unseen}
 use Rattle.restorer.specs.declared.Step.{Step}
 use Rattle.restorer.specs.declared.Step.the-variants.{Changes, Next, Into}
-use Rattle.restorer.proofs.Memories.{or-no, quiet-at, memory-none, memory-first, rule-resolved, searches-none, closed-none}
+use Rattle.restorer.proofs.Memories.{or-no, memory-none, memory-first, rule-resolved, searches-none, closed-none}
 use Rattle.restorer.proofs.Settles.{look-yes, look-no}
 
 -- ---- a row that is no Ident
@@ -67,8 +69,8 @@ goes-on w i (bin Seq e f) a n = bin-run w i Seq e f a
 goes-on w i (bin Choice e f) a n = bin-run w i Choice e f a
 
 module _ (s : Bytes) (t : Table Bytes) (m : List ℕ) (h : Right t m) where
-  passes : (r : Expr Span) → changesAt (loud t m) (resolve s r) ≡ false → Passing s t m m r
-  passes r e = record { searches = searches-none h; closed = closed-none t m; quiet = e }
+  passes : (r : Expr Span) → changesAt (loud t m nowhere) (resolve s r) ≡ false → (top : ℕ) → AtRoot (Silent nowhere top) s t top m m r
+  passes r e top = record { searches = searches-none h; closed = closed-none t nowhere m; quiet = e; leads = λ l. absurd (omega arith) }
 
   un-visits : (i : ℕ) (u : Un) (e : Expr Span) → Visited (stepFrom (unHead u .0) i (size e + 1)) s t m (un u e)
   unfolding stepFrom
@@ -81,7 +83,7 @@ module _ (s : Bytes) (t : Table Bytes) (m : List ℕ) (h : Right t m) where
   un-visits i (RepMin n) e = passes (un (RepMin n) e) refl
   un-visits i (RepMax n) e = passes (un (RepMax n) e) refl
   un-visits i (RepMinMax n k) e = passes (un (RepMinMax n k) e) refl
-  un-visits i Push e = record { searches = searches-none h; reaches = at-push }
+  un-visits i Push e = λ top. record { searches = searches-none h; reaches = at-push }
   un-visits i RestoreOnErr e = passes (un RestoreOnErr e) refl
 
   visits : (i : ℕ) (r : Expr Span) → (headOf r .0 ≡ 3 → ⊥) → Visited (stepFrom (headOf r .0) i (size r)) s t m r
@@ -122,7 +124,7 @@ module _ {w : List ℕ} {i k x y n v : ℕ} {a : Step} (f : Found w i k x y n) (
   unfolding stepFrom
   row-unseen rules m = rw e (go (eqb k 18) (eqb k 17) (eqb k 19))
     where
-      go : (p q o : Bool) → Unseen (pick p Changes (pick q (Next (i + 1 - v)) (pick o (Next (i + 1 - v)) (Next i)))) rules m
+      go : (p q o : Bool) → Unseen (pick p Changes (pick q (Next (i + 1 - v) nowhere) (pick o (Next (i + 1 - v) nowhere) (Next i nowhere)))) rules m
       go true q o = tt
       go false true o = tt
       go false false true = tt
@@ -132,14 +134,14 @@ module _ {w : List ℕ} {i k x y n v : ℕ} {a : Step} (f : Found w i k x y n) (
 
 -- the memory of the rule that is named, by cases
 module _ (P : Step → Type 0) (s k i : ℕ) where
-  recalled-case : (s ≡ 3 → P Changes) → (s ≡ 0 → P (Into k)) → ((s ≡ 3 → ⊥) → (s ≡ 0 → ⊥) → P (Next i)) → (a : Step) → a ≡ recalled s k i → P a
+  recalled-case : (s ≡ 3 → P Changes) → (s ≡ 0 → P (Into k)) → ((s ≡ 3 → ⊥) → (s ≡ 0 → ⊥) → P (Next i (positionOf s))) → (a : Step) → a ≡ recalled s k i → P a
   unfolding recalled
   recalled-case x y z a e = rw e (go (eqb s 3) (eqb s 0) refl refl)
     where
       no : (n : ℕ) → eqb s n ≡ false → s ≡ n → ⊥
       no n h q = false≢true (sym h ∙ ap (λ (j : ℕ). eqb j n) q ∙ eqb-self n)
 
-      go : (b c : Bool) → eqb s 3 ≡ b → eqb s 0 ≡ c → P (pick b Changes (pick c (Into k) (Next i)))
+      go : (b c : Bool) → eqb s 3 ≡ b → eqb s 0 ≡ c → P (pick b Changes (pick c (Into k) (Next i (positionOf s))))
       go true c p q = x (eqb-eq s 3 p)
       go false true p q = y (eqb-eq s 0 q)
       go false false p q = z (no 3 p) (no 0 q)
@@ -161,8 +163,8 @@ module _ {w : List ℕ} {i k x y n : ℕ} (f : Found w i k x y n) (z : k ≡ 3) 
   asks-goes v j a e r b = recalled-case (λ o. GoesOn o w i r) v j i (λ _. tt) (λ _. ident-goes r b) (λ _ _. ident-goes r b) a e
 
   -- a name that changes the stack
-  pub stack-name : {p q : ℕ} (s : Bytes) (t : Table Bytes) (m : List ℕ) (c : Bool) (r : Expr Span) → p ≡ x → q ≡ y → c ≡ member (bytesAt s (p, q)) stackNames → c ≡ true → At w i r → Right t m → Changing s t m m r
-  stack-name s t m c r d e g h b l = rw (ident-is r b) (record { searches = searches-none l; reaches = at-name (rw (d, e, h) at (sym g)) })
+  pub stack-name : {p q : ℕ} (s : Bytes) (t : Table Bytes) (m : List ℕ) (c : Bool) (r : Expr Span) → p ≡ x → q ≡ y → c ≡ member (bytesAt s (p, q)) stackNames → c ≡ true → At w i r → Right t m → (top : ℕ) → AtRoot (Reached top) s t top m m r
+  stack-name s t m c r d e g h b l top = rw (ident-is r b) (record { searches = searches-none l; reaches = at-name (rw (d, e, h) at (sym g)) })
 
   -- one that does not, and what a search by name found
   module _ {p q : ℕ} {rules rows : List ℕ} (s : Bytes) (t : Table Span) (lent : Lent t rules rows) (m : List ℕ) (c : Bool) (found : Found′) (r : Expr Span) (d : p ≡ x) (e : q ≡ y) (g : c ≡ member (bytesAt s (p, q)) stackNames) (h : c ≡ false) (finds : Finds (length rules / 4) rules s (bytesAt s (p, q)) found) (b : At w i r) where
@@ -172,16 +174,12 @@ module _ {w : List ℕ} {i k x y n : ℕ} (f : Found w i k x y n) (z : k ≡ 3) 
     here : Finds (length rules / 4) rules s (bytesAt s (x, y)) found
     here = rw (d, e) at finds
 
-    pub ident-nothing : found ≡ Nothing → Right (resolveTable s t) m → Passing s (resolveTable s t) m m r
+    pub ident-nothing : found ≡ Nothing → Right (resolveTable s t) m → (top : ℕ) → AtRoot (Silent nowhere top) s (resolveTable s t) top m m r
     ident-nothing o l =
         let u : Finds (length rules / 4) rules s (bytesAt s (x, y)) Nothing = rw o at here in
         let v : memoryOf (resolveTable s t) m (bytesAt s (x, y)) ≡ 2 = memory-none (resolveTable s t) m (bytesAt s (x, y)) (not-found s (bytesAt s (x, y)) t (rw (lent .heads) u)) in
         rw (ident-is r b)
-        (record {
-          searches = searches-none l;
-          closed = closed-none (resolveTable s t) m;
-          quiet = or-no (member (bytesAt s (x, y)) stackNames) (loud (resolveTable s t) m (bytesAt s (x, y))) plain (ap (λ (j : ℕ). not (isQuiet j)) v);
-        })
+        (passes s (resolveTable s t) m l (lit Ident (x, y)) (or-no (member (bytesAt s (x, y)) stackNames) (loud (resolveTable s t) m nowhere (bytesAt s (x, y))) plain (ap (λ (j : ℕ). not (isQuiet nowhere j)) v)))
 
     module _ {j : ℕ} (o : found ≡ Sited j) where
       first : First (length rules / 4) rules s (bytesAt s (x, y)) j
@@ -193,24 +191,21 @@ module _ {w : List ℕ} {i k x y n : ℕ} (f : Found w i k x y n) (z : k ≡ 3) 
       memory : (m′ : List ℕ) → memoryOf (resolveTable s t) m′ (bytesAt s (x, y)) ≡ stateOf m′ j
       memory m′ = memory-first s (bytesAt s (x, y)) m′ t j (rule .rule) (rule .is) (rule .same) (λ k u l v e. first .first k l (ap (λ (ws : List ℕ). nameOf ws s k) (sym (lent .heads)) ∙ name-is s t k u v ∙ e))
 
-      module _ {m′ : List ℕ} {v : Bool} (a : Looks (resolveTable s t) m m′ j v) where
-        ident-changes : v ≡ true → Changing s (resolveTable s t) m m′ r
-        ident-changes u =
-            rw (ident-is r b)
-            (record {
-              searches = a .searches;
-              reaches = through (rule .finds) (a .searches .right .yes j (resolveRule s (rule .rule)) (rule-resolved s t j (rule .rule) (rule .is)) (a .yes u));
-            })
+      there : RuleReaches (resolveTable s t) j → Reaches (resolveTable s t) (lit Ident (bytesAt s (x, y)))
+      there f = through (rule .finds) (f (resolveRule s (rule .rule)) (rule-resolved s t j (rule .rule) (rule .is)))
 
-        ident-passes : v ≡ false → Passing s (resolveTable s t) m m′ r
-        ident-passes u =
-            rw (ident-is r b)
-            (record {
-              searches = a .searches;
-              closed = a .closed u;
-              quiet = or-no (member (bytesAt s (x, y)) stackNames) (loud (resolveTable s t) m′ (bytesAt s (x, y))) plain (ap not (quiet-at (memoryOf (resolveTable s t) m′ (bytesAt s (x, y))) (stateOf m′ j) (memory m′) (a .quiet u)));
-            })
+      -- what the look into that rule says
+      ident-answers : (a : Outcome) (top : ℕ) (m′ : List ℕ) → Answered a (resolveTable s t) top m m′ j → AtRoot a s (resolveTable s t) top m m′ r
+      ident-answers (Reached high) top m′ a = rw (ident-is r b) (record { searches = a .1 .searches; reaches = there (a .1 .reaches) })
+      ident-answers (Silent low high) top m′ a =
+          rw (ident-is r b)
+          (record {
+            searches = a .1 .searches;
+            closed = a .1 .closed;
+            quiet = or-no (member (bytesAt s (x, y)) stackNames) (loud (resolveTable s t) m′ low (bytesAt s (x, y))) plain (ap (λ (n : ℕ). not (isQuiet low n)) (memory m′) ∙ ap not (a .1 .quiet));
+            leads = λ l f. there (a .1 .leads l f);
+          })
 
       -- what its memory says, or that it is to be asked
       pub ident-asks : j < length (resolveTable s t) → Right (resolveTable s t) m → (a : Step) → a ≡ recalled (stateOf m j) j i → Visited a s (resolveTable s t) m r
-      ident-asks l u = recalled-case (λ a. Visited a s (resolveTable s t) m r) (stateOf m j) j i (λ e. ident-changes (look-yes u e) refl) (λ _. record { yes = λ m′ a. ident-changes a refl; no = λ m′ a. ident-passes a refl }) (λ y z. ident-passes (look-no l u y z) refl)
+      ident-asks l u = recalled-case (λ a. Visited a s (resolveTable s t) m r) (stateOf m j) j i (λ e top. ident-answers (Reached top) top m (look-yes j top u e)) (λ _ a top m′ k. ident-answers a top m′ k) (λ y z top. ident-answers (Silent (positionOf (stateOf m j)) top) top m (look-no j top l u y z))

@@ -1,10 +1,8 @@
 -- A table that is lent as words, with a mark of four words for each rule. Assumes nothing.
 use mathlib.Core.Path.{_≡_}
-use mathlib.Core.Bool.{cond}
-use mathlib.Core.List.{List, [], _∷_}
-use Prim.Native.Nat.{ℕ, _+_, _-_, _*_, _≤_}
+use mathlib.Core.List.{List}
+use Prim.Native.Nat.{ℕ, _+_, _-_, _*_}
 use lib.ListN.{length, getD}
-use lib.Dec.{eqb}
 use Rattle.grammar.specs.Basic.{Bytes}
 use Rattle.grammar.specs.Tree.{Expr, size}
 use Rattle.grammar.specs.Rows.{Span}
@@ -30,21 +28,11 @@ pub record Given (rules rows : List ℕ) (text : Bytes) (marks : List ℕ) : Typ
   pub marked : Marked rules rows text marks
   pub ended : Ended rules marks
 
--- how many of these are 0: a memory that is written has fewer
-abbrev pub zeros : List ℕ → ℕ
-zeros [] = 0
-zeros (w ∷ m) = cond (eqb w 0) 1 0 + zeros m
-
 -- nothing but memories is changed
 pub record Steady (m m′ : List ℕ) : Type 0 where
   pub hash : (i : ℕ) → getD m′ (i * 4) 0 ≡ getD m (i * 4) 0
   pub chain : (i : ℕ) → getD m′ (i * 4 + 2) 0 ≡ getD m (i * 4 + 2) 0
   pub end : (i : ℕ) → getD m′ (i * 4 + 3) 0 ≡ getD m (i * 4 + 3) 0
-
--- and none is forgotten
-pub record Ran (m m′ : List ℕ) : Type 0 where
-  pub steady : Steady m m′
-  pub fewer : zeros m′ ≤ zeros m
 
 -- the rows from `from` to `end` are one tree
 pub record TreeRows (w : List ℕ) (from end : ℕ) : Type 0 where

@@ -2,8 +2,8 @@
 use mathlib.Core.Path.{_≡_}
 use mathlib.Core.Bool.{Bool, true, false, _||_, cond}
 use mathlib.Core.List.{List, [], _∷_}
-use Prim.Native.Nat.{ℕ, _+_, _-_, _/_, _^_, _≤_, _<_}
-use lib.ListN.{length}
+use Prim.Native.Nat.{ℕ, _+_, _-_, _*_, _/_, _^_, _≤_, _<_}
+use lib.ListN.{length, getD}
 use lib.Dec.{eqb}
 use Rattle.grammar.specs.Basic.{Bytes, member}
 use Rattle.grammar.specs.Tree.{Head, Un, Ident, Expr, E, lit, un, unHead}
@@ -64,6 +64,12 @@ pub record RowIs (w : List ℕ) (i k x y : ℕ) : Type 0 where
 -- no row of a tree of n rows up to row i is a RestoreOnErr
 abbrev pub Unset : List ℕ → ℕ → ℕ → Type 0
 Unset w i n = (j : ℕ) → i < j + n → j ≤ i → kindAt w j ≡ 19 → ⊥
+
+-- the tree whose last row is row `root` is rule i's, through which the stack cannot change
+pub record SettledNo (rules m : List ℕ) (i root : ℕ) : Type 0 where
+  pub below : i < length rules / 4
+  pub no : stateOf m i ≡ 2
+  pub ends : root + 1 ≡ getD m (i * 4 + 3) 0
 
 -- the tree e stands at p, and b says whether the stack can change through it; or it does not fit
 pub record Shown (q p : Place) (b : Bool) (t : Table Bytes) (e : E) (o o′ l l′ : List ℕ) : Type 0 where

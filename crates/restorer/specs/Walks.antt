@@ -2,9 +2,10 @@
 use mathlib.Core.Path.{_≡_}
 use mathlib.Core.Bool.{Bool, true, false, cond}
 use mathlib.Core.List.{List, [], _∷_}
+use mathlib.Core.Logic.{_⊎_}
 use Prim.Native.Nat.{ℕ, _+_, _-_, _/_, _≤_, _<_}
 use lib.ListN.{length}
-use lib.Dec.{eqb}
+use lib.Dec.{eqb, leb}
 use Rattle.grammar.specs.Basic.{Bytes}
 use Rattle.grammar.specs.Tree.{Expr, E, lit, fixed, skip, un, bin, size, isUn}
 use Rattle.grammar.specs.Rows.{Span}
@@ -12,7 +13,9 @@ use Rattle.grammar.specs.Text.{resolve}
 use Rattle.grammar.specs.Table.{Table}
 use Rattle.grammar.specs.Stack.{Reaches, changesLit}
 use Rattle.rows.specs.Rows.{At}
-use Rattle.restorer.specs.Search.{stateOf, loud, Searches, Closed, Looks}
+use Rattle.restorer.specs.Search.{stateOf, nowhere, loud, Answers, Looked}
+use Rattle.restorer.specs.declared.Outcome.{Outcome}
+use Rattle.restorer.specs.declared.Outcome.the-variants.{Reached, Silent}
 use Rattle.restorer.specs.declared.Step.{Step}
 use Rattle.restorer.specs.declared.Step.the-variants.{Changes, Next, Into}
 
@@ -45,41 +48,40 @@ pick false a b = b
 -- row before
 unfoldable pub stepFrom : ℕ → ℕ → ℕ → Step
 stepFrom k i n =
-    pick (eqb k 18) Changes (pick (eqb k 17) (Next (i + 1 - n)) (pick (eqb k 19) (Next (i + 1 - n)) (Next i)))
+    pick (eqb k 18) Changes (pick (eqb k 17) (Next (i + 1 - n) nowhere) (pick (eqb k 19) (Next (i + 1 - n) nowhere) (Next i nowhere)))
+
+-- the position that a memory tells
+abbrev pub positionOf : ℕ → ℕ
+positionOf s = cond (leb 4 s) (s - 4) nowhere
 
 -- the step from row i, which names rule k, whose memory is s: that rule is asked where it was not seen
 unfoldable pub recalled : ℕ → ℕ → ℕ → Step
-recalled s k i = pick (eqb s 3) Changes (pick (eqb s 0) (Into k) (Next i))
+recalled s k i = pick (eqb s 3) Changes (pick (eqb s 0) (Into k) (Next i (positionOf s)))
 
--- a change is reached from the tree r
-pub record Changing (s : Bytes) (t : Table Bytes) (m m′ : List ℕ) (r : Expr Span) : Type 0 where
-  pub searches : Searches t m m′
-  pub reaches : Reaches t (resolve s r)
+-- what a search answers at the root of the tree r
+abbrev pub AtRoot : Outcome → Bytes → Table Bytes → ℕ → List ℕ → List ℕ → Expr Span → Type 0
+AtRoot a s t top m m′ r = Answers a t top m m′ (λ low. changesAt (loud t m′ low) (resolve s r) ≡ false) (Reaches t (resolve s r))
 
--- none is found at its root
-pub record Passing (s : Bytes) (t : Table Bytes) (m m′ : List ℕ) (r : Expr Span) : Type 0 where
-  pub searches : Searches t m m′
-  pub closed : Closed t m m′
-  pub quiet : changesAt (loud t m′) (resolve s r) ≡ false
-
--- rule k is to say which
-pub record Asking (s : Bytes) (t : Table Bytes) (m : List ℕ) (k : ℕ) (r : Expr Span) : Type 0 where
-  pub yes : (m′ : List ℕ) → Looks t m m′ k true → Changing s t m m′ r
-  pub no : (m′ : List ℕ) → Looks t m m′ k false → Passing s t m m′ r
-
+-- a change is reached from there, or none is found there, or rule k is to say which
 abbrev pub Visited : Step → Bytes → Table Bytes → List ℕ → Expr Span → Type 0
-Visited Changes s t m r = Changing s t m m r
-Visited (Next j) s t m r = Passing s t m m r
-Visited (Into k) s t m r = Asking s t m k r
+Visited Changes s t m r = (top : ℕ) → AtRoot (Reached top) s t top m m r
+Visited (Next j low) s t m r = (top : ℕ) → AtRoot (Silent low top) s t top m m r
+Visited (Into k) s t m r = (a : Outcome) (top : ℕ) (m′ : List ℕ) → Looked a t top m m′ k → AtRoot a s t top m m′ r
 
 -- where it is none, what is below the root, row i, stands up to row j
 abbrev pub GoesOn : Step → List ℕ → ℕ → Expr Span → Type 0
 GoesOn Changes w i r = Unit {0}
-GoesOn (Next j) w i r = (j ≤ i) × Run w (i + 1 - size r) j (below r)
+GoesOn (Next j low) w i r = (j ≤ i) × Run w (i + 1 - size r) j (below r)
 GoesOn (Into k) w i r = (i ≤ i) × Run w (i + 1 - size r) i (below r)
 
 -- a rule that is to be asked was not seen
 abbrev pub Unseen : Step → List ℕ → List ℕ → Type 0
 Unseen Changes rules m = Unit {0}
-Unseen (Next j) rules m = Unit {0}
+Unseen (Next j low) rules m = Unit {0}
 Unseen (Into k) rules m = (k < length rules / 4) × (stateOf m k ≡ 0)
+
+-- the least of two
+pub record Least (r a b : ℕ) : Type 0 where
+  pub first : r ≤ a
+  pub second : r ≤ b
+  pub one : (r ≡ a) ⊎ (r ≡ b)

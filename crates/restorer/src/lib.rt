@@ -1,8 +1,8 @@
-// Restore: whether the stack can change through each rule of a table, and step 7 on a subtree. A rule's memory is word 1 of its mark: 0 not seen, 1 seen in this search, 2 the stack cannot change through it, 3 it can.
+// Restore: whether the stack can change through each rule of a table, and step 7 on a subtree. A rule's memory is word 1 of its mark: 0 not seen, 2 the stack cannot change through it, 3 it can, 4 + p it is open, at position p of the stack of open rules.
 ghost use mathlib.Core.Path.{_≡_};
 ghost use mathlib.Core.Bool.{true, false, _||_};
-ghost use Prim.Native.Nat.{_+_, _-_, _*_, _/_, _^_, _≤_, _<_};
-ghost use lib.ListN.{length};
+ghost use Prim.Native.Nat.{ℕ, _+_, _-_, _*_, _/_, _^_, _≤_, _<_};
+ghost use lib.ListN.{length, set};
 ghost use Rattle.grammar.specs.Tree.{Expr, size};
 ghost use Rattle.grammar.specs.Rows.{Span};
 ghost use Rattle.grammar.specs.Text.{resolve};
@@ -16,10 +16,11 @@ ghost use Rattle.rows.specs.Rows.{Inside, At, Stands, shapeOf, kindAt, xAt, yAt
 ghost use Rattle.rows.specs.declared.Shape.the-variants.{One, Two};
 ghost use Rattle.writing.specs.Writes.{Room, Answer};
 ghost use Rattle.names.specs.Names.{marked, Hashed};
-ghost use Rattle.restorer.specs.Search.{stateOf, Right, Answers, Looks, turnedTo, withTurned, Rested, RuleSettled};
-ghost use Rattle.restorer.specs.Lends.{Lent, Marked, Given, Steady, Ran, TreeRows, Settles};
-ghost use Rattle.restorer.specs.Walks.{stepFrom, recalled, GoesOn, Visited, Unseen};
-ghost use Rattle.restorer.specs.Restores.{isGuard, showsThrough, guardedIf, Sure, Known, RowIs, Unset, climbed, RestoredAnswer, Over, NodeAnswer, OverAnswer, Becomes, Climbable};
+ghost use Rattle.restorer.specs.Search.{stateOf, Right, Walked, Looked, RuleSettled};
+ghost use Rattle.restorer.specs.Lends.{Lent, Marked, Given, Steady, TreeRows, Settles};
+ghost use Rattle.restorer.specs.Stacks.{Stacked, Searching, Ran, topOf, Left, Within, Closes, Leaves};
+ghost use Rattle.restorer.specs.Walks.{stepFrom, recalled, GoesOn, Visited, Unseen, Least};
+ghost use Rattle.restorer.specs.Restores.{isGuard, showsThrough, SettledNo, guardedIf, Sure, Known, RowIs, Unset, climbed, RestoredAnswer, Over, NodeAnswer, OverAnswer, Becomes, Climbable};
 ghost use Rattle.chains.specs.Runs.{ups};
 use names::Found;
 use rows::Lookup;
@@ -30,17 +31,24 @@ use writing::Wrote;
 
 const UNSEEN: u32 = 0;
 
-const SEEN: u32 = 1;
-
 const NO: u32 = 2;
 
 const YES: u32 = 3;
 
-// What a row says of the stack: it can change, or nothing shows and the search goes on before this row, or a rule that was not seen is to say it.
+// the lowest position that was named, where none was
+const NOWHERE: usize = 4294967295;
+
+// What a row says of the stack: it can change, or nothing shows and the search goes on before this row, with the position of the open rule that it names, or a rule that was not seen is to say it.
 enum Step {
     Changes,
-    Next(usize),
+    Next(usize, usize),
     Into(usize),
+}
+
+// How a search ends: a change is reached, or nothing shows, with the lowest position that was named; and where the open rules end.
+enum Outcome {
+    Reached(usize),
+    Silent(usize, usize),
 }
 
 // The step from row i, which is no Ident.
@@ -52,13 +60,13 @@ fn step_from(kind: u32, i: usize, size: usize) -> Step
         return Step::Changes;
     }
     if kind == 17 {
-        return Step::Next(i + 1 - size);
+        return Step::Next(i + 1 - size, NOWHERE);
     }
     // already set: its child is not looked at
     if kind == 19 {
-        return Step::Next(i + 1 - size);
+        return Step::Next(i + 1 - size, NOWHERE);
     }
-    Step::Next(i)
+    Step::Next(i, NOWHERE)
 }
 
 // The step from row i, which names rule k, by that rule's memory.
@@ -73,7 +81,10 @@ fn recall(marks: &[u32], k: usize, i: usize) -> Step
     if state == UNSEEN {
         return Step::Into(k);
     }
-    Step::Next(i)
+    if state < 4 {
+        return Step::Next(i, NOWHERE);
+    }
+    Step::Next(i, wide(state - 4))
 }
 
 // The step from row i, which is an Ident.
@@ -92,7 +103,7 @@ fn named(rules: &[u32], rows: &[u32], text: &[u8], marks: &[u32], i: usize) -> S
         return Step::Changes;
     }
     let Found::At(k) = names::find_rule(rules, text, marks, text, x, n) else {
-        return Step::Next(i);
+        return Step::Next(i, NOWHERE);
     };
     recall(marks, k, i)
 }
@@ -113,22 +124,91 @@ fn visit(rules: &[u32], rows: &[u32], text: &[u8], marks: &[u32], i: usize) -> S
     named(rules, rows, text, marks, i)
 }
 
-// Whether the stack can change through rule i, which was not seen, as far as this search can tell.
-fn look(rules: &[u32], rows: &[u32], text: &[u8], marks: &mut [u32], i: usize) -> bool
-    requires { ⌜ Given (now rules) (now rows) (now text) (now marks) ⌝ }
+// The least of two.
+fn least(a: usize, b: usize) -> usize
+    ensures { λ r. ⌜ Least r a b ⌝ }
+{
+    if b < a {
+        return b;
+    }
+    a
+}
+
+// Opens rule i at position `top`.
+fn enter(marks: &mut [u32], stack: &mut [u32], i: usize, top: usize)
+    requires { ⌜ (i * 4 + 1 < length (now marks)) × (i < 2 ^ 30) ⌝ }
+    requires { ⌜ (top < length (now stack)) × (top < 2 ^ 30) ⌝ }
+    ensures { λ _. ⌜ now (marks .exit) ≡ set (now (marks .entry)) (i * 4 + 1) (4 + top) ⌝ }
+    ensures { λ _. ⌜ now (stack .exit) ≡ set (now (stack .entry)) top i ⌝ }
+{
+    marks[i * 4 + 1] = (4 + top) as u32;
+    stack[top] = i as u32;
+}
+
+// Settles the open rules from position `from` to `top` as `to`.
+fn close(marks: &mut [u32], stack: &[u32], from: usize, top: usize, to: u32)
+    requires { ⌜ Within (now marks) (now stack) from top ⌝ }
+    requires { ⌜ (1 < to) × (to < 4) ⌝ }
+    ensures { λ _. ⌜ Steady (now (marks .entry)) (now (marks .exit)) ⌝ }
+    ensures { λ _. ⌜ ((n : ℕ) → Stacked n (now (marks .entry)) (now (stack .entry)) top → Closes n (now (marks .entry)) (now (marks .exit)) (now (stack .entry)) from to) ⌝ }
+{
+    let mut p = top;
+    while from < p {
+        p -= 1;
+        let i = wide(stack[p]);
+        marks[i * 4 + 1] = to;
+    }
+}
+
+// Leaves the rule at position `top`, whose rows are walked: if no rule below it was named, the stack cannot change through it and those above it.
+fn leave(marks: &mut [u32], stack: &[u32], a: Outcome, top: usize) -> Outcome
+    requires { ⌜ Within (now marks) (now stack) top (topOf a) ⌝ }
+    ensures { λ b. ⌜ Steady (now (marks .entry)) (now (marks .exit)) ⌝ }
+    ensures { λ b. ⌜ Leaves a b top (now (marks .entry)) (now (marks .exit)) (now (stack .entry)) ⌝ }
+{
+    match a {
+        Outcome::Reached(high) => Outcome::Reached(high),
+        Outcome::Silent(low, high) => {
+            if low < top {
+                return Outcome::Silent(low, high);
+            }
+            close(marks, stack, top, high, NO);
+            Outcome::Silent(NOWHERE, top)
+        }
+    }
+}
+
+// Whether the stack can change through rule i, which was not seen and is opened at position `top`, as far as this search can tell.
+fn look(
+    rules: &[u32],
+    rows: &[u32],
+    text: &[u8],
+    marks: &mut [u32],
+    stack: &mut [u32],
+    i: usize,
+    top: usize,
+) -> Outcome
+    requires { ⌜ Searching (now rules) (now rows) (now text) (now marks) (now stack) top ⌝ }
     requires { ⌜ i < length (now rules) / 4 ⌝ }
     requires { ⌜ stateOf (now marks) i ≡ 0 ⌝ }
-    ensures { λ b. ⌜ Ran (now (marks .entry)) (now (marks .exit)) ⌝ }
-    ensures { λ b. ⌜ ((t : Table Span) → Lent t (now (rules .entry)) (now (rows .entry)) → Right (resolveTable (now (text .entry)) t) (now (marks .entry)) → Looks (resolveTable (now (text .entry)) t) (now (marks .entry)) (now (marks .exit)) i b) ⌝ }
+    ensures { λ a. ⌜ Ran (length (now (rules .entry)) / 4) (now (marks .entry)) (now (marks .exit)) (now (stack .exit)) top (topOf a) ⌝ }
+    ensures { λ a. ⌜ Left a top ⌝ }
+    ensures { λ a. ⌜ ((t : Table Span) → Lent t (now (rules .entry)) (now (rows .entry)) → Right (resolveTable (now (text .entry)) t) (now (marks .entry)) → Looked a (resolveTable (now (text .entry)) t) top (now (marks .entry)) (now (marks .exit)) i) ⌝ }
 {
     let at = i * 4;
     let end = wide(marks[at + 3]);
-    marks[at + 1] = SEEN;
-    if walk(rules, rows, text, marks, end - wide(rules[at + 3]), end) {
-        marks[at + 1] = YES;
-        return true;
-    }
-    false
+    enter(marks, stack, i, top);
+    let a = walk(
+        rules,
+        rows,
+        text,
+        marks,
+        stack,
+        end - wide(rules[at + 3]),
+        end,
+        top + 1,
+    );
+    leave(marks, stack, a, top)
 }
 
 // Whether the stack can change through the tree of the rows from `from` to `end`, as far as this search can tell.
@@ -137,53 +217,44 @@ fn walk(
     rows: &[u32],
     text: &[u8],
     marks: &mut [u32],
+    stack: &mut [u32],
     from: usize,
     end: usize,
-) -> bool
-    requires { ⌜ Given (now rules) (now rows) (now text) (now marks) ⌝ }
+    top: usize,
+) -> Outcome
+    requires { ⌜ Searching (now rules) (now rows) (now text) (now marks) (now stack) top ⌝ }
     requires { ⌜ TreeRows (now rows) from end ⌝ }
-    ensures { λ b. ⌜ Ran (now (marks .entry)) (now (marks .exit)) ⌝ }
-    ensures { λ b. ⌜ ((t : Table Span) (r : Expr Span) → Lent t (now (rules .entry)) (now (rows .entry)) → At (now (rows .entry)) (end - 1) r → Right (resolveTable (now (text .entry)) t) (now (marks .entry)) → Answers (resolveTable (now (text .entry)) t) (now (marks .entry)) (now (marks .exit)) (resolve (now (text .entry)) r) b) ⌝ }
+    ensures { λ a. ⌜ Ran (length (now (rules .entry)) / 4) (now (marks .entry)) (now (marks .exit)) (now (stack .exit)) top (topOf a) ⌝ }
+    ensures { λ a. ⌜ ((t : Table Span) (r : Expr Span) → Lent t (now (rules .entry)) (now (rows .entry)) → At (now (rows .entry)) (end - 1) r → Right (resolveTable (now (text .entry)) t) (now (marks .entry)) → Walked a (resolveTable (now (text .entry)) t) top (now (marks .entry)) (now (marks .exit)) (resolve (now (text .entry)) r)) ⌝ }
 {
     let mut i = end;
+    let mut low = NOWHERE;
+    let mut high = top;
     while from < i {
         // a call for a rule that was not seen, none for a row
         match visit(rules, rows, text, marks, i - 1) {
             Step::Changes => {
-                return true;
+                return Outcome::Reached(high);
             }
-            Step::Next(j) => {
+            Step::Next(j, l) => {
                 i = j;
+                low = least(low, l);
             }
             Step::Into(k) => {
-                if look(rules, rows, text, marks, k) {
-                    return true;
+                match look(rules, rows, text, marks, stack, k, high) {
+                    Outcome::Reached(h) => {
+                        return Outcome::Reached(h);
+                    }
+                    Outcome::Silent(l, h) => {
+                        i -= 1;
+                        low = least(low, l);
+                        high = h;
+                    }
                 }
-                i -= 1;
             }
         }
     }
-    false
-}
-
-// What a rule's memory becomes when a search ends: `to` where the search has seen it.
-fn turned(state: u32, to: u32) -> u32
-    ensures { λ r. ⌜ r ≡ turnedTo to state ⌝ }
-{
-    if state == SEEN { to } else { state }
-}
-
-// Ends a search: the rules that it has seen turn to `to`.
-fn turn(marks: &mut [u32], count: usize, to: u32)
-    requires { ⌜ count * 4 ≤ length (now marks) ⌝ }
-    ensures { λ _. ⌜ now (marks .exit) ≡ withTurned to count (now (marks .entry)) ⌝ }
-{
-    let mut i = 0;
-    while i < count {
-        let at = i * 4 + 1;
-        marks[at] = turned(marks[at], to);
-        i += 1;
-    }
+    Outcome::Silent(low, high)
 }
 
 // Forgets what is known of the rules.
@@ -198,28 +269,35 @@ fn forget(marks: &mut [u32], count: usize)
     }
 }
 
-// Settles rule i. A "no" that was found while another rule was open is settled only where the whole search ends in "no".
-fn settle_rule(rules: &[u32], rows: &[u32], text: &[u8], marks: &mut [u32], i: usize)
-    requires { ⌜ Given (now rules) (now rows) (now text) (now marks) ⌝ }
+// Settles rule i and what it leads to. Where a change is reached, every rule that is open leads to it.
+fn settle_rule(
+    rules: &[u32],
+    rows: &[u32],
+    text: &[u8],
+    marks: &mut [u32],
+    stack: &mut [u32],
+    i: usize,
+)
+    requires { ⌜ Searching (now rules) (now rows) (now text) (now marks) (now stack) 0 ⌝ }
     requires { ⌜ i < length (now rules) / 4 ⌝ }
     ensures { λ _. ⌜ Steady (now (marks .entry)) (now (marks .exit)) ⌝ }
-    ensures { λ _. ⌜ ((t : Table Span) → Lent t (now (rules .entry)) (now (rows .entry)) → Rested (resolveTable (now (text .entry)) t) (now (marks .entry)) → RuleSettled (resolveTable (now (text .entry)) t) (now (marks .entry)) (now (marks .exit)) i) ⌝ }
+    ensures { λ _. ⌜ Stacked (length (now (rules .entry)) / 4) (now (marks .exit)) (now (stack .exit)) 0 ⌝ }
+    ensures { λ _. ⌜ ((t : Table Span) → Lent t (now (rules .entry)) (now (rows .entry)) → Right (resolveTable (now (text .entry)) t) (now (marks .entry)) → RuleSettled (resolveTable (now (text .entry)) t) (now (marks .entry)) (now (marks .exit)) i) ⌝ }
 {
     if marks[i * 4 + 1] != UNSEEN {
         return;
     }
-    let count = rules.len() / 4;
-    if look(rules, rows, text, marks, i) {
-        turn(marks, count, UNSEEN);
-    } else {
-        turn(marks, count, NO);
-    }
+    let Outcome::Reached(top) = look(rules, rows, text, marks, stack, i, 0) else {
+        return;
+    };
+    close(marks, stack, 0, top, YES);
 }
 
-// Settles every rule of the table: whether the stack can change through it.
-pub fn settle(rules: &[u32], rows: &[u32], text: &[u8], marks: &mut [u32])
+// Settles every rule of the table: whether the stack can change through it. Each is walked once; `stack` is room for the open ones.
+pub fn settle(rules: &[u32], rows: &[u32], text: &[u8], marks: &mut [u32], stack: &mut [u32])
     requires { ⌜ Marked (now rules) (now rows) (now text) (now marks) ⌝ }
     requires { ⌜ length (now rows) < 2 ^ 32 ⌝ }
+    requires { ⌜ length (now rules) / 4 ≤ length (now stack) ⌝ }
     ensures { λ _. ⌜ Given (now (rules .entry)) (now (rows .entry)) (now (text .entry)) (now (marks .exit)) ⌝ }
     ensures { λ _. ⌜ Settles (now (rules .entry)) (now (rows .entry)) (now (text .entry)) (now (marks .exit)) ⌝ }
 {
@@ -228,7 +306,7 @@ pub fn settle(rules: &[u32], rows: &[u32], text: &[u8], marks: &mut [u32])
     forget(marks, count);
     let mut i = 0;
     while i < count {
-        settle_rule(rules, rows, text, marks, i);
+        settle_rule(rules, rows, text, marks, stack, i);
         i += 1;
     }
 }
@@ -631,23 +709,20 @@ fn unset(rows: &[u32], root: usize) -> bool
     true
 }
 
-// Whether the subtree of row `root` is rule i's, which is settled as one through which the stack cannot change, and no RestoreOnErr hides a change in it.
-fn settled_no(rules: &[u32], marks: &[u32], rows: &[u32], i: usize, root: usize) -> bool
+// What is remembered of rule i, where the subtree of row `root` is its tree.
+fn memory(rules: &[u32], marks: &[u32], i: usize, root: usize) -> u32
     requires { ⌜ length (now rules) / 4 * 4 ≤ length (now marks) ⌝ }
-    requires { ⌜ Stands (now rows) root ⌝ }
-    ensures { λ b. ⌜ (b ≡ true → (text : Bytes) (t : Table Span) (r : Expr Span) → Settles (now (rules .entry)) (now (rows .entry)) text (now (marks .entry)) → Lent t (now (rules .entry)) (now (rows .entry)) → At (now (rows .entry)) root r → steps.restore (resolveTable text t) (resolve text r) ≡ resolve text r) ⌝ }
+    requires { ⌜ root + 1 < 2 ^ 64 ⌝ }
+    ensures { λ r. ⌜ (r ≡ 2 → SettledNo (now (rules .entry)) (now (marks .entry)) i root) ⌝ }
 {
     if i >= rules.len() / 4 {
-        return false;
+        return UNSEEN;
     }
     let at = i * 4;
-    if marks[at + 1] != NO {
-        return false;
-    }
     if wide(marks[at + 3]) != root + 1 {
-        return false;
+        return UNSEEN;
     }
-    unset(rows, root)
+    marks[at + 1]
 }
 
 // Whether the marks or the rows show that restoring the subtree of row `root` leaves it as it is.
@@ -658,8 +733,15 @@ fn stays(rules: &[u32], marks: &[u32], rows: &[u32], text: &[u8], i: usize, root
     ensures { λ b. ⌜ (b ≡ true → (t : Table Span) (r : Expr Span) → Lent t (now (rules .entry)) (now (rows .entry)) → At (now (rows .entry)) root r → steps.restore (resolveTable (now (text .entry)) t) (resolve (now (text .entry)) r) ≡ resolve (now (text .entry)) r) ⌝ }
 {
     // the names of a rule that is settled need no look
-    if settled_no(rules, marks, rows, i, root) {
-        return true;
+    let state = memory(rules, marks, i, root);
+    if state == YES {
+        return false;
+    }
+    if state == NO {
+        // unless a RestoreOnErr hides a change
+        if unset(rows, root) {
+            return true;
+        }
     }
     !alters(rules, marks, rows, text, root)
 }

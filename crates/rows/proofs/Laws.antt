@@ -4,16 +4,17 @@ use mathlib.Core.Bool.{Bool, true, false}
 use mathlib.Core.List.{List, [], _∷_, _++_, append-assoc}
 use Prim.Native.Nat.{ℕ, _+_, _-_, _*_, _/_, _≤_, _<_}
 use native.Mathlib.Nat.{add-zero}
+use native.Mathlib.Decide.{decLt}
 use native.Mathlib.Omega.{arith}
-use borrow.Author.Tests.{lt-ltb, ltb-true}
-use lib.Dec.{ltb}
+use borrow.Author.Tests.{lt-ltb, ltb-true, eqb-true, eqb-false}
+use lib.Dec.{ltb, eqb}
 use lib.ListN.{length, getD, length-append, length-take, length-drop, List·getD-append}
 use lib.Seq.{getD-append-add, getD-take, getD-drop, ext-getD}
 use Rattle.grammar.specs.Tree.{Head, Str, Un, Bin, litKind, fixedHead, unHead, binKind, Expr, lit, fixed, skip, un, bin, size}
 use Rattle.grammar.specs.Rows.{Span, row, strRows, flat}
 use Rattle.grammar.specs.Text.{bytesAt}
 use Rattle.rows.specs.declared.Lookup.the-variants.{Row, Refused}
-use Rattle.rows.specs.Rows.{kindAt, xAt, yAt, sizeAt, rowAt, At, AtStrs}
+use Rattle.rows.specs.Rows.{kindAt, xAt, yAt, sizeAt, rowAt, At, AtStrs, Tells, Unlike}
 
 -- ---- a tree's words
 
@@ -219,3 +220,23 @@ module _ (t u : List ℕ) (x y n : ℕ) (hx : x + n ≤ length t) (hy : y + n �
 
   pub parts-same : bytesAt t (x, n) ≡ bytesAt u (y, n) → (k : ℕ) → k < n → getD t (x + k) 0 ≡ getD u (y + k) 0
   parts-same e k l = simp (getD-take, getD-drop) at (ap (λ (s : List ℕ). getD s k 0) e)
+
+-- what holds of the first i places and of the b after them holds of the first i + b
+pub below-block : (t u : List ℕ) (x y i b : ℕ) → ((k : ℕ) → k < i → getD t (x + k) 0 ≡ getD u (y + k) 0) → ((k : ℕ) → k < b → getD t (x + i + k) 0 ≡ getD u (y + i + k) 0)
+    → (k : ℕ) → k < i + b → getD t (x + k) 0 ≡ getD u (y + k) 0
+below-block t u x y i b f g k l = go (decLt k i)
+  where
+    go : Dec (k < i) → getD t (x + k) 0 ≡ getD u (y + k) 0
+    go (yes h) = f k h
+    go (no h) =
+        let p : x + k ≡ x + i + (k - i) = omega arith in
+        let q : y + k ≡ y + i + (k - i) = omega arith in
+        rw (p, q) (g (k - i) (omega arith))
+
+-- all bytes are the same where none is the first that is not
+pub unlike-tells : (t u : List ℕ) (x y n r : ℕ) → x + n ≤ length t → y + n ≤ length u → Unlike t x u y n r → Tells (eqb r n) (bytesAt t (x, n) ≡ bytesAt u (y, n))
+unlike-tells t u x y n r h k f = go (eqb r n) refl
+  where
+    go : (b : Bool) → eqb r n ≡ b → Tells b (bytesAt t (x, n) ≡ bytesAt u (y, n))
+    go true e = let z : r ≡ n = eqb-true r n e in same-parts t u x y n h k (λ i l. f .same i (omega arith))
+    go false e = λ q. let z : r < n = omega (arith, eqb-false r n e, f .most) in f .unlike z (parts-same t u x y n h k q r z)

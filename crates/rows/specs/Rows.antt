@@ -116,3 +116,13 @@ cellAt t w i = cellOf t (kindAt w i) (xAt w i) (yAt w i)
 abbrev pub Tells : Bool → Type 0 → Type 0
 Tells true P = P
 Tells false P = P → ⊥
+
+-- so many bytes are compared at a time
+abbrev pub block : ℕ
+block = 32
+
+-- of n bytes of one text from x and of another from y, r are the same before the first that is not
+pub record Unlike (t : Bytes) (x : ℕ) (u : Bytes) (y n r : ℕ) : Type 0 where
+  pub most : r ≤ n
+  pub same : (k : ℕ) → k < r → getD t (x + k) 0 ≡ getD u (y + k) 0
+  pub unlike : r < n → getD t (x + r) 0 ≡ getD u (y + r) 0 → ⊥

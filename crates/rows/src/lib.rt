@@ -1,11 +1,12 @@
 // Reading and comparing postfix rows of four words.
 ghost use mathlib.Core.Path.{_≡_};
+ghost use mathlib.Core.Bool.{true};
 ghost use Prim.Native.Nat.{ℕ, _+_, _≤_, _<_, _/_};
-ghost use lib.ListN.{length};
+ghost use lib.ListN.{length, getD};
 ghost use Rattle.grammar.specs.Tree.{Expr};
 ghost use Rattle.grammar.specs.Rows.{Span};
 ghost use Rattle.grammar.specs.Text.{bytesAt, resolve};
-ghost use Rattle.rows.specs.Rows.{rowAt, shapeOf, cellAt, Tells, LitInside, At, StandsIn};
+ghost use Rattle.rows.specs.Rows.{rowAt, shapeOf, cellAt, Tells, block, Unlike, LitInside, At, StandsIn};
 
 // What a row lookup finds.
 pub enum Lookup {
@@ -85,19 +86,73 @@ pub fn part(text: &[u8], x: usize, n: usize) -> &[u8]
     &text[x..end]
 }
 
+// So many bytes are compared at a time, with no test between them.
+const BLOCK: usize = 32;
+
+// 0 where two bytes are the same.
+fn unlike(a: u8, b: u8) -> u8
+    ensures { λ r. ⌜ (r ≡ 0 → a ≡ b) ⌝ }
+{
+    if a == b { 0 } else { 1 }
+}
+
+// The larger of two bytes.
+fn larger(a: u8, b: u8) -> u8
+    ensures { λ r. ⌜ (a ≤ r) × (b ≤ r) ⌝ }
+{
+    if a < b { b } else { a }
+}
+
+// Whether a block of one text from x and of another from y shows itself as the same. No test in the loop: many bytes go at a time.
+fn same_block(text1: &[u8], x: usize, text2: &[u8], y: usize) -> bool
+    requires { ⌜ (x + block ≤ length (now text1)) × (y + block ≤ length (now text2)) ⌝ }
+    ensures { λ r. ⌜ (r ≡ true → (k : ℕ) → k < block → getD (now (text1 .entry)) (x + k) 0 ≡ getD (now (text2 .entry)) (y + k) 0) ⌝ }
+{
+    let mut m: u8 = 0;
+    let mut i = 0;
+    while i < BLOCK {
+        m = larger(m, unlike(text1[x + i], text2[y + i]));
+        i += 1;
+    }
+    m == 0
+}
+
+// How many of n bytes of one text from x and of another from y are the same, block by block.
+fn same_blocks(text1: &[u8], x: usize, text2: &[u8], y: usize, n: usize) -> usize
+    requires { ⌜ (x + n ≤ length (now text1)) × (y + n ≤ length (now text2)) ⌝ }
+    ensures { λ r. ⌜ (r ≤ n) × ((k : ℕ) → k < r → getD (now (text1 .entry)) (x + k) 0 ≡ getD (now (text2 .entry)) (y + k) 0) ⌝ }
+{
+    let mut i = 0;
+    while BLOCK <= n - i {
+        if !same_block(text1, x + i, text2, y + i) {
+            return i;
+        }
+        i += BLOCK;
+    }
+    i
+}
+
+// How many of n bytes of one text from x and of another from y are the same before the first that is not.
+pub fn first_unlike(text1: &[u8], x: usize, text2: &[u8], y: usize, n: usize) -> usize
+    requires { ⌜ (x + n ≤ length (now text1)) × (y + n ≤ length (now text2)) ⌝ }
+    ensures { λ r. ⌜ Unlike (now (text1 .entry)) x (now (text2 .entry)) y n r ⌝ }
+{
+    let mut i = same_blocks(text1, x, text2, y, n);
+    while i < n {
+        if text1[x + i] != text2[y + i] {
+            return i;
+        }
+        i += 1;
+    }
+    n
+}
+
 // Whether n bytes of one text from x and of another from y are the same.
 pub fn same_bytes(text1: &[u8], x: usize, text2: &[u8], y: usize, n: usize) -> bool
     requires { ⌜ (x + n ≤ length (now text1)) × (y + n ≤ length (now text2)) ⌝ }
     ensures { λ r. ⌜ Tells r (bytesAt (now (text1 .entry)) (x, n) ≡ bytesAt (now (text2 .entry)) (y, n)) ⌝ }
 {
-    let mut i = 0;
-    while i < n {
-        if text1[x + i] != text2[y + i] {
-            return false;
-        }
-        i += 1;
-    }
-    true
+    first_unlike(text1, x, text2, y, n) == n
 }
 
 // Whether row i of one table and row j of another are the same up to the offsets of their literals.

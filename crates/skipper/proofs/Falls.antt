@@ -19,7 +19,7 @@ use Rattle.writing.specs.Writes.{Areas, Fits, Written, RowPut, RowAnswer, Answe
 use Rattle.writing.proofs.Trees.{done-written, full-not, written-out, un-tree, fits-un}
 use Rattle.chains.specs.Runs.{wrap}
 use Rattle.skipper.specs.Memory.{byMarks}
-use Rattle.skipper.specs.Lends.{marksOf}
+use Rattle.skipper.specs.Lends.{listsOf}
 use Rattle.skipper.specs.Skips.{nodeBy, nodeOf, ListAnswer, Settles, Fell, FellLoop, FellFork, FallAnswer, Rising, RisenAnswer}
 use Rattle.skipper.specs.declared.Fallen.{Fallen}
 use Rattle.skipper.specs.declared.Fallen.the-variants.{Plain, Looped, Forked}
@@ -79,7 +79,7 @@ module _ {rules : List ℕ} {u : Bytes} {m w : List ℕ} {s : Bytes} {root₀ ba
     falls-fork d t r h a st = record { fell = f .fell t r h a st; kind = sym (g .kind); two = d }
 
     -- at a node with one child, where the test of a loop answered
-    module _ {b : Loop} (l : (t : Table Span) (r : Expr Span) → rules ≡ ruleWords t → At w base r → ListAnswer b w s (byMarks (marksOf (resolveTable u t) m)) (resolve s r)) where
+    module _ {b : Loop} (l : (t : Table Span) (r : Expr Span) → rules ≡ ruleWords t → At w base r → ListAnswer b w s (byMarks (listsOf (resolveTable u t) m)) (resolve s r)) where
       pub falls-loop : {j : ℕ} → b ≡ Over j → (t : Table Span) (r : Expr Span) → rules ≡ ruleWords t → At w root₀ r → Settles (resolveTable u t) m (resolve s r) → FellLoop (resolveTable u t) m w s root₀ base j r
       falls-loop d t r h a st = let z = f .fell t r h a st in record { fell = z; list = list-over _ _ _ _ (l t (z .tree) h (z .at)) d }
 

@@ -1,12 +1,12 @@
 -- A reading of rows, arm by arm: a leaf, a rule, a Choice. Assumes nothing.
-use mathlib.Core.Path.{_≡_, refl, sym, ap, _∙_, subst}
-use mathlib.Core.List.{List}
+use mathlib.Core.Path.{_≡_, refl, sym, ap, _∙_}
+use mathlib.Core.List.{List, [], _∷_}
 use mathlib.Core.Option.{none, some}
-use Prim.Native.Nat.{ℕ, _+_, _-_, _*_, _/_, _≤_, _<_}
+use Prim.Native.Nat.{ℕ, suc, _+_, _-_, _*_, _/_, _≤_, _<_}
 use native.Mathlib.Omega.{arith}
-use lib.ListN.{length, getD, set, getElem?, length-set}
+use lib.ListN.{length, getD, set}
 use Rattle.grammar.specs.Basic.{Bytes}
-use Rattle.grammar.specs.Tree.{Lit, Str, Insens, Ident, Seq, Choice, E, Expr, lit, fixed, skip, un, bin, size}
+use Rattle.grammar.specs.Tree.{Str, Insens, Ident, Seq, Choice, E, Expr, lit, fixed, skip, un, bin, size}
 use Rattle.grammar.specs.Rows.{Span}
 use Rattle.grammar.specs.Text.{bytesAt, resolve}
 use Rattle.grammar.specs.Table.{Table, ruleWords, resolveTable, find}
@@ -16,15 +16,14 @@ use Rattle.rows.specs.Rows.{At}
 use Rattle.rows.proofs.Laws.{Found, root, found-size, size-pos}
 use Rattle.rows.proofs.Cells.{lit-shape, bin-shape}
 use Rattle.rows.proofs.Views.{TwoView, as-lit, as-two, lit-is, two-is}
-use Rattle.names.specs.Names.{Hashed, Ended, First, Finds}
+use Rattle.names.specs.Names.{Ended, First, Finds}
 use Rattle.names.specs.declared.Found.{Found as Found′}
 use Rattle.names.specs.declared.Found.the-variants.{At as Sited, Nothing}
-use Rattle.names.proofs.Chains.{hashed-kept}
+use Rattle.names.proofs.Index.{hashed-kept}
 use Rattle.names.proofs.Finding.{There, there, rule-count, rule-words, looked, not-found, body-at}
-use Rattle.skipper.specs.Memory.{Known, Reads}
-use Rattle.skipper.specs.Lends.{indexFrom, marksOf, Lent, Given, Steady, Ran, ReadsOf}
-use Rattle.skipper.proofs.Memories.{Monotone, left-mono, reads-plain, reads-marked, reads-unknown, reads-then, reads-stop, reads-rule}
-use Rattle.skipper.proofs.Rules.{zeros-set, steady-none, steady-more, steady-set, sets-mark, index-first, index-nothing}
+use Rattle.skipper.specs.Lends.{indexFrom, marksOf, capped, listsOf, Lent, Given, Steady, ReadsOf}
+use Rattle.skipper.proofs.Memories.{Monotone, reads-plain, reads-marked, reads-unknown, reads-then, reads-stop, reads-rule}
+use Rattle.skipper.proofs.Rules.{sets-mark, index-first, index-nothing}
 
 -- what is lent stays lent
 pub given-steady : {rules rows : List ℕ} {text : Bytes} {m m′ : List ℕ} → Given rules rows text m → Steady m m′ → length m′ ≡ length m → Given rules rows text m′
@@ -96,6 +95,10 @@ module _ (left whole : (Bytes → Reading) → E → Reading) (mono : (e : E) �
       rw (two-is Choice v z, step (resolve s (v .left)) (resolve s (v .right)))
       (record { read = λ known. reads-then (λ look. left look (resolve s (v .left))) (λ look. whole look (resolve s (v .right))) (mono (resolve s (v .left))) (l .read known) (q (v .right) (v .atRight) .read (l .read known .known (omega arith))) })
 
+pub length-table : (s : Bytes) (t : Table Span) → length (resolveTable s t) ≡ length t
+length-table s [] = refl
+length-table s (r ∷ t) = ap suc (length-table s t)
+
 -- a name, looked up
 module _ {rules : List ℕ} (t : Table Span) (heads : rules ≡ ruleWords t) where
   pub count : length rules / 4 ≡ length t
@@ -105,9 +108,13 @@ module _ {rules : List ℕ} (t : Table Span) (heads : rules ≡ ruleWords t) whe
   rule-there k h = there t k (omega (arith, count))
 
   module _ (s : Bytes) (m : List ℕ) (x : Bytes) where
-    pub nothing-mark : Finds (length rules / 4) rules s x Nothing → marksOf (resolveTable s t) m x ≡ 2
+    nothing-mark : Finds (length rules / 4) rules s x Nothing → marksOf (resolveTable s t) m x ≡ 2
     unfolding marksOf
     nothing-mark n = rw (index-nothing 0 t s x (λ j h e. n j (omega (arith, count)) (rw heads e)))
+
+    pub nothing-list : Finds (length rules / 4) rules s x Nothing → listsOf (resolveTable s t) m x ≡ 2
+    unfolding listsOf
+    nothing-list n = ap capped (nothing-mark n)
 
     pub name-missing : Finds (length rules / 4) rules s x Nothing → find (resolveTable s t) x ≡ none
     name-missing n = not-found s x t (rw heads at n)
@@ -127,9 +134,13 @@ module _ {rules : List ℕ} (t : Table Span) (heads : rules ≡ ruleWords t) whe
           let e : l .rule ≡ r .rule = some-eq (l .rule) (r .rule) (sym (l .is) ∙ r .is) in
           rw (← e) (l .finds)
 
-      pub name-mark : marksOf (resolveTable s t) m x ≡ getD m (k * 4 + 1) 0
+      name-mark : marksOf (resolveTable s t) m x ≡ getD m (k * 4 + 1) 0
       unfolding marksOf
       name-mark = rw name-index
+
+      pub name-list : listsOf (resolveTable s t) m x ≡ capped (getD m (k * 4 + 1) 0)
+      unfolding listsOf
+      name-list = ap capped name-mark
 
       pub name-marked : (v : ℕ) → v ≡ getD m (k * 4 + 1) 0 → (v ≡ 0 → ⊥) → ReadsOf s t m m v (λ look. look x)
       name-marked v e z =

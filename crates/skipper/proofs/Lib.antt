@@ -7,6 +7,8 @@ pub mod Settles
 pub mod Rotation
 pub mod Tables
 pub mod Spelling
+pub mod Ways
+pub mod Words
 pub mod Onward
 pub mod Skipping
 pub mod Quiets

@@ -1,7 +1,6 @@
 -- The strings of an expression, written in a loop: what is still to come, and what its writing says of the whole. Assumes nothing.
-use mathlib.Core.Path.{_≡_, refl, sym, ap, _∙_}
+use mathlib.Core.Path.{_≡_, refl, _∙_}
 use mathlib.Core.List.{List}
-use mathlib.Core.Option.{none}
 use Prim.Native.Nat.{ℕ, _+_, _-_, _*_, _/_, _^_, _≤_, _<_}
 use native.Mathlib.Omega.{arith}
 use lib.ListN.{length}
@@ -9,21 +8,22 @@ use Rattle.grammar.specs.Basic.{Bytes}
 use Rattle.grammar.specs.Tree.{Expr}
 use Rattle.grammar.specs.Rows.{Span}
 use Rattle.grammar.specs.Text.{resolve}
-use Rattle.grammar.specs.Table.{Table, resolveTable, find}
+use Rattle.grammar.specs.Table.{Table, resolveTable}
 use Rattle.grammar.specs.Lists.{readLeft, readIn}
 use Rattle.rows.specs.Rows.{At, kindAt, xAt, yAt, sizeAt}
 use Rattle.rows.proofs.Laws.{Found, root}
 use Rattle.rows.proofs.Views.{TwoView}
-use Rattle.names.specs.declared.Found.{Found as Found′}
-use Rattle.names.specs.declared.Found.the-variants.{At as Sited, Nothing}
+use Rattle.names.specs.Names.{IsName}
 use Rattle.writing.specs.Writes.{Room, LitAnswer, StrsAnswer}
 use Rattle.writing.specs.declared.Place.{Place}
 use Rattle.writing.specs.declared.Wrote.{Wrote}
 use Rattle.writing.specs.declared.Wrote.the-variants.{Done, Full}
 use Rattle.skipper.specs.Lends.{Lent}
-use Rattle.skipper.specs.Skips.{Spells, Spelled, literalAt, BodyAt, BodyAnswer}
+use Rattle.skipper.specs.Ways.{Spells}
+use Rattle.skipper.specs.Skips.{Spelled, literalAt, BodyAt}
 use Rattle.skipper.proofs.Leaf.{choice-view}
-use Rattle.skipper.proofs.Spelling.{Split, spell-str, spell-ident, spell-name, spell-leaf, spell-choice, name-fuel, name-known, name-spells, str-wrote, strs-room, strs-both, strs-over}
+use Rattle.skipper.proofs.Spelling.{Split, spell-str, spell-ident, spell-name, spell-leaf, spell-choice, name-fuel, str-wrote, strs-room, strs-both, strs-over}
+use Rattle.skipper.proofs.Ways.{spells-known}
 
 -- a row as it stands
 pub row-here : (w : List ℕ) (i : ℕ) → i < length w / 4 → Found w i (kindAt w i) (xAt w i) (yAt w i) (sizeAt w i)
@@ -31,14 +31,6 @@ row-here w i h = record { within = h; kind = refl; x = refl; y = refl; rows = re
 
 pub here : {w : List ℕ} {i : ℕ} {r : Expr Span} → At w i r → Found w i (kindAt w i) (xAt w i) (yAt w i) (sizeAt w i)
 here {w} {i} a = row-here w i (root a .inside)
-
--- what a search for a rule's expression says
-module _ {f : Found′} where
-  pub body-at : {w : List ℕ} {u x : Bytes} {t : Table Span} {j : ℕ} → f ≡ Sited j → BodyAnswer f w u t x → BodyAt j w u t x
-  body-at d k = rw d at k
-
-  pub body-none : (w : List ℕ) (u x : Bytes) (t : Table Span) → f ≡ Nothing → BodyAnswer f w u t x → find (resolveTable u t) x ≡ none
-  body-none w u x t d k = rw d at k
 
 -- both sides of a Choice
 module _ {w : List ℕ} {i : ℕ} {r : Expr Span} (a : At w i r) (z : kindAt w i ≡ 9) where
@@ -100,13 +92,11 @@ module _ {v : List ℕ} {s u : Bytes} {t : Table Span} {ss : List Bytes} {p : Pl
       pub name-has : 1 ≤ n
       name-has = name-fuel (literalAt v s i) n as-name
 
-      pub name-body : {w : List ℕ} {f : Found′} {j : ℕ} → f ≡ Sited j → BodyAnswer f w u t (literalAt v s i) → Onward w u u t ss p o₀ l₀ j (n - 1) q o l
-      name-body d k =
-          let b = body-at d k in
-          record { tree = b .tree; at = b .at; rest = h .rest; spells = name-spells (literalAt v s i) n (resolve u (b .tree)) (b .is) as-name; wrote = h .wrote }
+      pub name-is : {rules w : List ℕ} → Lent rules w t → IsName rules u (literalAt v s i)
+      name-is l = spells-known u (literalAt v s i) n l as-name
 
-      pub name-none : (w : List ℕ) {f : Found′} → f ≡ Nothing → BodyAnswer f w u t (literalAt v s i) → ⊥
-      name-none w d k = name-known (literalAt v s i) n as-name (body-none w u (literalAt v s i) t d k)
+      pub name-body : {w : List ℕ} {j : ℕ} → BodyAt j w u t (literalAt v s i) → Onward w u u t ss p o₀ l₀ j (n - 1) q o l
+      name-body b = record { tree = b .tree; at = b .at; rest = h .rest; spells = b .gives n (h .rest) as-name; wrote = h .wrote }
 
 -- the same of whatever the expression at row `top` gives, with room for it: what a loop keeps
 pub record Going (rules w : List ℕ) (u : Bytes) (v : List ℕ) (s : Bytes) (top fuel : ℕ) (p : Place) (o₀ l₀ : List ℕ) (i n : ℕ) (q : Place) (o l : List ℕ) : Type 0 where
@@ -158,21 +148,18 @@ module _ {rules w : List ℕ} {u : Bytes} {v : List ℕ} {s : Bytes} {top fuel :
     go-end a o₂ l₂ k t r ss f b m = let h = g .goes t r ss f b m in h .wrote a o₂ l₂ (k t (h .tree) (h .rest) f (h .at) (last-leaf h no-choice))
 
 -- a name as the last leaf of a rule
-module _ {rules w : List ℕ} {u : Bytes} {top fuel : ℕ} {p : Place} {o₀ l₀ : List ℕ} {i n : ℕ} {q : Place} {o l : List ℕ} (g : Going rules w u w u top fuel p o₀ l₀ i n q o l) (no-choice : kindAt w i ≡ 9 → ⊥) (no-str : kindAt w i ≡ 0 → ⊥) {f : Found′} (k : (v : List ℕ) (t : Table Span) → Lent rules v t → BodyAnswer f v u t (literalAt w u i)) where
-  pub body-less : {j : ℕ} → f ≡ Sited j → length w < 2 ^ 64 → (n - 1) * 2 ^ 64 + sizeAt w j < n * 2 ^ 64 + sizeAt w i
-  body-less {j} d b =
-      let h = root (name-body (ahead g) no-choice no-str d (k w (g .first .table) (g .first .lent)) .at) in
+module _ {rules w : List ℕ} {u : Bytes} {top fuel : ℕ} {p : Place} {o₀ l₀ : List ℕ} {i n : ℕ} {q : Place} {o l : List ℕ} (g : Going rules w u w u top fuel p o₀ l₀ i n q o l) (no-choice : kindAt w i ≡ 9 → ⊥) (no-str : kindAt w i ≡ 0 → ⊥) {j : ℕ} (k : (t : Table Span) → Lent rules w t → BodyAt j w u t (literalAt w u i)) (b : length w < 2 ^ 64) where
+  pub body-less : (n - 1) * 2 ^ 64 + sizeAt w j < n * 2 ^ 64 + sizeAt w i
+  body-less =
+      let h = root (k (g .first .table) (g .first .lent) .at) in
       omega (arith, h .rows, h .most, h .inside, name-has (ahead g) no-choice no-str, b)
 
-  pub go-body : {j : ℕ} → f ≡ Sited j → length w < 2 ^ 64 → Going rules w u w u top fuel p o₀ l₀ j (n - 1) q o l
-  go-body d b = record {
+  pub go-body : Going rules w u w u top fuel p o₀ l₀ j (n - 1) q o l
+  go-body = record {
     first = g .first;
-    goes = λ t r ss e a h. name-body (g .goes t r ss e a h) no-choice no-str d (k w t e);
+    goes = λ t r ss e a h. name-body (g .goes t r ss e a h) no-choice no-str (k t e);
     room = g .room;
     words = g .words;
     bytes = g .bytes;
-    less = omega (arith, g .less, body-less d b);
+    less = omega (arith, g .less, body-less);
   }
-
-  pub go-none : f ≡ Nothing → ⊥
-  go-none d = name-none (ahead g) no-choice no-str w d (k w (g .first .table) (g .first .lent))

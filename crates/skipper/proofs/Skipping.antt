@@ -1,44 +1,45 @@
 -- Step 2, node by node: on trees, and of what was read and written. Assumes nothing.
-use mathlib.Core.Path.{_≡_, refl, sym, ap, ap₂, _∙_, subst}
+use mathlib.Core.Path.{_≡_, refl, sym, ap, _∙_}
 use mathlib.Core.Bool.{false≢true, Bool, true, false, _&&_, _||_}
 use mathlib.Core.List.{List, [], _∷_}
 use mathlib.Core.Option.{Option, none, some}
-use Prim.Native.Nat.{ℕ, zero, suc, _+_, _-_, _*_, _/_, _^_, _≤_, _<_}
+use Prim.Native.Nat.{ℕ, zero, suc, _+_, _-_, _/_, _^_, _≤_, _<_}
 use native.Mathlib.Omega.{arith}
 use borrow.Author.Tests.{ne-eqb}
 use lib.ListN.{length, getElem?}
 use Rattle.grammar.specs.Basic.{Bytes, _>>=_, any, orElse}
-use Rattle.grammar.specs.Tree.{E, Expr, lit, fixed, skip, un, bin, size, anyNode}
+use Rattle.grammar.specs.Tree.{E, Expr, lit, fixed, skip, un, bin, anyNode}
 use Rattle.grammar.specs.Rows.{Span, strRows}
 use Rattle.grammar.specs.Text.{resolve, joined, spans}
 use Rattle.grammar.specs.Table.{Table, Rule, resolveTable}
-use Rattle.grammar.specs.Lists.{Reading, nothing, strings, again, readIn, readName, loopOver, skipList, asStrings, isAgain}
+use Rattle.grammar.specs.Lists.{Reading, nothing, strings, again, readIn, loopOver, skipList, asStrings, isAgain}
 use Rattle.grammar.specs.Steps.{children, isAtomic, rotate, topDown, orSame, skip?, skipTo}
 use Rattle.grammar.proofs.Logic.{none-some, some-eq}
 use Rattle.grammar.proofs.TopDown.{skip-step}
 use Rattle.rows.specs.declared.Shape.{Shape}
 use Rattle.rows.specs.declared.Shape.the-variants.{Lit, Num, One, Two, Skips}
-use Rattle.rows.specs.Rows.{At, shapeOf, kindAt}
+use Rattle.rows.specs.Rows.{At, shapeOf}
 use Rattle.rows.proofs.Laws.{Found, root, headOf}
-use Rattle.rows.proofs.Views.{OneView, TwoView, as-one, as-two, shape-in, shapeIn, found-shape}
+use Rattle.rows.proofs.Views.{OneView, TwoView, as-one, as-two, shape-in, shapeIn}
 use Rattle.writing.specs.Writes.{Areas, Fits, Put, RowAnswer, StrsAnswer, Answer}
 use Rattle.writing.specs.declared.Place.{Place}
 use Rattle.writing.specs.declared.Wrote.{Wrote}
 use Rattle.writing.specs.declared.Wrote.the-variants.{Done, Full}
 use Rattle.writing.proofs.Puts.{put-done, put-full}
 use Rattle.writing.proofs.Trees.{skip-tree, fits-strs}
-use Rattle.skipper.specs.Memory.{markOf, nameList, byMarks, Known}
-use Rattle.skipper.specs.Lends.{marksOf, Lent}
-use Rattle.skipper.specs.Lists.{unreadIn, unreadAt, Lists}
-use Rattle.skipper.specs.Skips.{nodeBy, nodeOf, isList, ListAt, ListAnswer, Spells, Settles}
+use Rattle.skipper.specs.Memory.{markOf, byMarks, Known}
+use Rattle.skipper.specs.Lends.{listsOf, Lent}
+use Rattle.skipper.specs.Lists.{unreadAt, Lists}
+use Rattle.skipper.specs.Ways.{Spells}
+use Rattle.skipper.specs.Skips.{nodeBy, nodeOf, isList, ListAt, ListAnswer, Settles}
 use Rattle.skipper.specs.declared.Loop.{Loop}
 use Rattle.skipper.specs.declared.Loop.the-variants.{Over, Nothing}
 use Rattle.skipper.specs.declared.Node as node
 use Rattle.skipper.specs.declared.Node.the-variants.{Leaf, Single, Pair}
 use Rattle.skipper.proofs.Memories.{in-mono, settled-so}
-use Rattle.skipper.proofs.Leaf.{count}
+use Rattle.skipper.proofs.Leaf.{length-table, count}
 use Rattle.skipper.proofs.Rotation.{skip-is}
-use Rattle.skipper.proofs.Tables.{or-first, or-second, length-table}
+use Rattle.skipper.proofs.Tables.{or-first, or-second}
 
 -- On trees
 
@@ -92,23 +93,23 @@ any-root p (un u e) h = or-first (p (un u e)) (anyNode p e) h
 any-root p (bin b l r) h = or-first (p (bin b l r)) (anyNode p l || anyNode p r) h
 
 module _ {t : Table Bytes} where
-  by-names : (m : List ℕ) (x : E) (n : ℕ) → Known t (marksOf t m) → 2 ≤ n → markOf (readIn (byMarks (marksOf t m)) x) ≡ n → markOf (skipList t x) ≡ n
+  by-names : (m : List ℕ) (x : E) (n : ℕ) → Known t (listsOf t m) → 2 ≤ n → markOf (readIn (byMarks (listsOf t m)) x) ≡ n → markOf (skipList t x) ≡ n
   by-names m x n k b h = ap markOf (skip-is t x) ∙ settled-so (λ look. readIn look x) [] (in-mono x) k (λ z c. absurd (false≢true c)) b h
 
 module _ {t : Table Bytes} {m : List ℕ} where
-  pub settles-list : {e : E} (x : E) → Settles t m e → isList (readIn (byMarks (marksOf t m)) x) ≡ true → HasList t x
-  settles-list x h l = go (skipList t x) refl (by-names m x 3 (h .known) (omega arith) (list-mark (readIn (byMarks (marksOf t m)) x) l))
+  pub settles-list : {e : E} (x : E) → Settles t m e → isList (readIn (byMarks (listsOf t m)) x) ≡ true → HasList t x
+  settles-list x h l = go (skipList t x) refl (by-names m x 3 (h .known) (omega arith) (list-mark (readIn (byMarks (listsOf t m)) x) l))
     where
       go : (p : Reading) → skipList t x ≡ p → markOf (skipList t x) ≡ 3 → HasList t x
       go nothing e c = absurd (omega (arith, ap markOf e))
       go again e c = absurd (omega (arith, ap markOf e))
       go (strings ss) e c = record { list = ss; reads = e }
 
-  settles-root : {e : E} → Settles t m e → (x : E) → loopOver e ≡ some x → isAgain (readIn (byMarks (marksOf t m)) x) ≡ false
+  settles-root : {e : E} → Settles t m e → (x : E) → loopOver e ≡ some x → isAgain (readIn (byMarks (listsOf t m)) x) ≡ false
   unfolding unreadAt
-  settles-root {e} h x g = rw g at (any-root (unreadAt (byMarks (marksOf t m))) e (h .settled))
+  settles-root {e} h x g = rw g at (any-root (unreadAt (byMarks (listsOf t m))) e (h .settled))
 
-  pub settles-none : (e : E) → Settles t m e → ((x : E) → loopOver e ≡ some x → isList (readIn (byMarks (marksOf t m)) x) ≡ false) → skip? t e ≡ none
+  pub settles-none : (e : E) → Settles t m e → ((x : E) → loopOver e ≡ some x → isList (readIn (byMarks (listsOf t m)) x) ≡ false) → skip? t e ≡ none
   settles-none e h g = go (loopOver e) refl
     where
       nothing-is : (p : Reading) → markOf p ≡ 2 → p ≡ nothing
@@ -118,7 +119,7 @@ module _ {t : Table Bytes} {m : List ℕ} where
 
       go : (o : Option E) → loopOver e ≡ o → skip? t e ≡ none
       go none c = skip-none t e c
-      go (some x) c = loop-stays t e c (nothing-is (skipList t x) (by-names m x 2 (h .known) (omega arith) (none-mark (readIn (byMarks (marksOf t m)) x) (g x c) (settles-root h x c))))
+      go (some x) c = loop-stays t e c (nothing-is (skipList t x) (by-names m x 2 (h .known) (omega arith) (none-mark (readIn (byMarks (listsOf t m)) x) (g x c) (settles-root h x c))))
 
 -- On rows
 
@@ -188,17 +189,17 @@ module _ (s : Bytes) (t : Table Bytes) {w : List ℕ} {i k x y n : ℕ} {r : Exp
 
 -- the children of a tree whose loops are settled
 settles-un : {t : Table Bytes} {m : List ℕ} {u : Rattle.grammar.specs.Tree.Un} (e c : E) → e ≡ un u c → Settles t m e → Settles t m c
-settles-un {t} {m} {u} e c q h = record { known = h .known; settled = or-second (unreadAt (byMarks (marksOf t m)) (un u c)) (anyNode (unreadAt (byMarks (marksOf t m))) c) (rw q at (h .settled)) }
+settles-un {t} {m} {u} e c q h = record { targets = h .targets; known = h .known; settled = or-second (unreadAt (byMarks (listsOf t m)) (un u c)) (anyNode (unreadAt (byMarks (listsOf t m))) c) (rw q at (h .settled)) }
 
 module _ {t : Table Bytes} {m : List ℕ} {b : Rattle.grammar.specs.Tree.Bin} (e l r : E) (q : e ≡ bin b l r) (h : Settles t m e) where
-  abbrev below : (anyNode (unreadAt (byMarks (marksOf t m))) l || anyNode (unreadAt (byMarks (marksOf t m))) r) ≡ false
-  below = or-second (unreadAt (byMarks (marksOf t m)) (bin b l r)) (anyNode (unreadAt (byMarks (marksOf t m))) l || anyNode (unreadAt (byMarks (marksOf t m))) r) (rw q at (h .settled))
+  abbrev below : (anyNode (unreadAt (byMarks (listsOf t m))) l || anyNode (unreadAt (byMarks (listsOf t m))) r) ≡ false
+  below = or-second (unreadAt (byMarks (listsOf t m)) (bin b l r)) (anyNode (unreadAt (byMarks (listsOf t m))) l || anyNode (unreadAt (byMarks (listsOf t m))) r) (rw q at (h .settled))
 
   settles-left : Settles t m l
-  settles-left = record { known = h .known; settled = or-first (anyNode (unreadAt (byMarks (marksOf t m))) l) (anyNode (unreadAt (byMarks (marksOf t m))) r) below }
+  settles-left = record { targets = h .targets; known = h .known; settled = or-first (anyNode (unreadAt (byMarks (listsOf t m))) l) (anyNode (unreadAt (byMarks (listsOf t m))) r) below }
 
   settles-right : Settles t m r
-  settles-right = record { known = h .known; settled = or-second (anyNode (unreadAt (byMarks (marksOf t m))) l) (anyNode (unreadAt (byMarks (marksOf t m))) r) below }
+  settles-right = record { targets = h .targets; known = h .known; settled = or-second (anyNode (unreadAt (byMarks (listsOf t m))) l) (anyNode (unreadAt (byMarks (listsOf t m))) r) below }
 
 pub settles-child : {t : Table Bytes} {m : List ℕ} (s : Bytes) {w : List ℕ} {i k x y n : ℕ} {r : Expr Span} (v : OneView w i k x y n r) → Settles t m (resolve s r) → Settles t m (resolve s (v .child))
 settles-child s {r = r} v h = settles-un (resolve s r) (resolve s (v .child)) (ap (resolve s) (v .is)) h
@@ -259,5 +260,6 @@ pub lists-settle : {t : Table Bytes} {m : List ℕ} (j : ℕ) (r : Rule Bytes) �
 lists-settle {t} {m} j r l e a =
     record {
       known = l .known;
-      settled = rw a at (any-none (λ r. isAtomic (r .type) && anyNode (unreadAt (byMarks (marksOf t m))) (rotate (r .body))) t j r (l .settled) e);
+      targets = l .targets;
+      settled = rw a at (any-none (λ r. isAtomic (r .type) && anyNode (unreadAt (byMarks (listsOf t m))) (rotate (r .body))) t j r (l .settled) e);
     }

@@ -2,18 +2,19 @@
 use mathlib.Core.Path.{_≡_, refl, sym, ap, _∙_}
 use mathlib.Core.Bool.{Bool, true, false, _&&_, cond}
 use mathlib.Core.List.{List, [], _∷_, _++_}
-use mathlib.Core.Option.{Option, none, some}
-use Prim.Native.Nat.{ℕ, zero, suc, _+_, _-_, _*_, _/_, _≤_, _<_}
+use mathlib.Core.Option.{none, some}
+use Prim.Native.Nat.{ℕ, zero, suc, _+_, _-_, _≤_}
 use native.Mathlib.Omega.{arith}
-use lib.ListN.{length, getD, length-append}
-use lib.Dec.{eqb}
+use lib.ListN.{length, length-append}
+use lib.Dec.{eqb, leb}
+use borrow.Author.Tests.{leb-false, ne-eqb}
 use Rattle.grammar.specs.Basic.{Bytes, member}
-use Rattle.grammar.specs.Tree.{Lit, Str, Insens, Ident, Seq, Choice, Rep, E, Expr, lit, fixed, skip, un, bin}
+use Rattle.grammar.specs.Tree.{Str, Insens, Ident, Seq, Choice, Rep, E, Expr, lit, fixed, skip, un, bin}
 use Rattle.grammar.specs.Rows.{Span}
 use Rattle.grammar.specs.Text.{bytesAt, resolve, joined}
 use Rattle.grammar.specs.Table.{Table, find}
 use Rattle.grammar.specs.Lists.{Reading, nothing, strings, again, andThen, readFound, readLeft, readIn, readName, loopOver}
-use Rattle.grammar.proofs.Logic.{none-some, some-eq, eqb-eq}
+use Rattle.grammar.proofs.Logic.{none-some, some-eq}
 use Rattle.rows.specs.Rows.{At}
 use Rattle.rows.proofs.Laws.{Found, root}
 use Rattle.rows.proofs.Cells.{lit-shape}
@@ -25,23 +26,27 @@ use Rattle.writing.specs.declared.Wrote.the-variants.{Done, Full}
 use Rattle.writing.proofs.Puts.{put-done, put-full, put-room}
 use Rattle.writing.proofs.Trees.{strs-one, strs-append}
 use Rattle.skipper.specs.Memory.{byMark}
+use Rattle.skipper.specs.Lends.{capped}
 use Rattle.skipper.specs.Loops.{LoopAnswer}
-use Rattle.skipper.specs.Skips.{isList, ListAnswer, Spells}
+use Rattle.skipper.specs.Ways.{Spells}
+use Rattle.skipper.specs.Skips.{isList, ListAnswer}
 use Rattle.skipper.specs.declared.Loop.{Loop}
 use Rattle.skipper.specs.declared.Loop.the-variants.{Over, Nothing}
-use Rattle.skipper.proofs.Leaf.{choice-view, choice-left}
+use Rattle.skipper.proofs.Leaf.{choice-view}
 use Rattle.skipper.proofs.Settles.{loop-no-rep, rep-view, rep-is, loop-over}
 
 -- Whether there is a list
 
-pub mark-list : (s : ℕ) → isList (byMark s) ≡ eqb s 3
-mark-list s = go (eqb s 2) (eqb s 3) refl refl
+pub mark-list : (w : ℕ) → isList (byMark (capped w)) ≡ leb 3 w
+mark-list w = go (leb 3 w) refl
   where
-    go : (a b : Bool) → eqb s 2 ≡ a → eqb s 3 ≡ b → isList (cond a nothing (cond b (strings []) again)) ≡ b
-    go true true p q = absurd (omega (arith, eqb-eq s 2 p, eqb-eq s 3 q))
-    go true false p q = refl
-    go false true p q = refl
-    go false false p q = refl
+    small : (a : Bool) → isList (cond a nothing (cond false (strings []) again)) ≡ false
+    small true = refl
+    small false = refl
+
+    go : (b : Bool) → leb 3 w ≡ b → isList (byMark (cond b 3 w)) ≡ b
+    go true e = refl
+    go false e = rw (ne-eqb w 3 (λ q. omega (arith, leb-false 3 w e))) (small (eqb w 2))
 
 then-list : (p q : Reading) → isList (andThen p q) ≡ (isList p && isList q)
 then-list nothing q = refl
@@ -94,7 +99,7 @@ module _ (s : Bytes) (look : Bytes → Reading) {w : List ℕ} {i k x y n : ℕ}
 
 -- The strings
 
-never : {P : Type 0} {ss : List Bytes} (p : Reading) → isList p ≡ false → p ≡ strings ss → P
+pub never : {P : Type 0} {ss : List Bytes} (p : Reading) → isList p ≡ false → p ≡ strings ss → P
 never nothing h e = let z : _≡_ {A = ℕ} 0 1 = cc in absurd (omega arith)
 never again h e = let z : _≡_ {A = ℕ} 0 1 = cc in absurd (omega arith)
 never (strings ts) h e = let z : _≡_ {A = ℕ} 0 1 = cc in absurd (omega arith)

@@ -9,7 +9,7 @@ use native.Mathlib.Omega.{arith}
 use borrow.Author.Tests.{eq-eqb, ne-eqb}
 use lib.ListN.{length, getD, getElem?}
 use Rattle.grammar.specs.Basic.{Bytes, any, sameBytes}
-use Rattle.grammar.specs.Tree.{E, Expr, lit, fixed, skip, un, bin, size, anyNode}
+use Rattle.grammar.specs.Tree.{E, lit, fixed, skip, un, bin, size, anyNode}
 use Rattle.grammar.specs.Rows.{Span}
 use Rattle.grammar.specs.Text.{resolve}
 use Rattle.grammar.specs.Table.{Table, Rule, resolveRule, resolveTable, find}
@@ -18,21 +18,21 @@ use Rattle.grammar.specs.Steps.{isAtomic}
 use Rattle.grammar.specs.Refusals.{meets}
 use Rattle.grammar.proofs.Logic.{none-some, some-eq, or-left, or-right}
 use Rattle.rows.specs.Rows.{At}
-use Rattle.rows.proofs.Laws.{root, size-pos}
-use Rattle.names.specs.Names.{marked, Hashed, Ended}
+use Rattle.names.specs.Names.{marked, Ended}
 use Rattle.names.proofs.Marks.{length-marked, marked-other, marked-at}
-use Rattle.names.proofs.Chains.{hashed-kept}
-use Rattle.names.proofs.Finding.{There, there, rule-words, inside-table}
-use Rattle.skipper.specs.Memory.{markOf, nameList, Marks, byMarks, Unfinished, Known, Grows}
-use Rattle.skipper.specs.Lends.{indexFrom, stateAt, marksOf, Lent, Given, Steady}
+use Rattle.names.proofs.Index.{hashed-kept}
+use Rattle.names.proofs.Finding.{There, rule-words, inside-table}
+use Rattle.skipper.specs.Memory.{markOf, nameList, Marks, byMarks, Known, Grows}
+use Rattle.skipper.specs.Lends.{indexFrom, stateAt, marksOf, listsOf, Lent, Given, Steady}
 use Rattle.skipper.specs.Loops.{TreeRows, openAt, ruleOpen, Idle, Settled, LoopsOf}
-use Rattle.skipper.specs.Lists.{Lists, ReadAll, ListsAnswer}
-use Rattle.skipper.specs.declared.Readings.the-variants.{Read, Again}
+use Rattle.skipper.specs.Ways.{Targets, Relisted}
+use Rattle.skipper.specs.Lists.{ReadAll}
 use Rattle.skipper.proofs.Memories.{Below, marks-below, marks-grow, grows-none, grows-more, name-none}
 use Rattle.skipper.proofs.Rules.{steady-none, steady-more}
-use Rattle.skipper.proofs.Leaf.{count, rule-there, rule-stands}
+use Rattle.skipper.proofs.Leaf.{length-table, count, rule-there, rule-stands}
 use Rattle.skipper.proofs.Settles.{idle-grows, loops-none, open-mono}
 use Rattle.skipper.proofs.Rotation.{rotated-rules, meets-is}
+use Rattle.skipper.proofs.Ways.{lists-same}
 
 pub or-first : (a b : Bool) → (a || b) ≡ false → a ≡ false
 or-first true b h = h
@@ -180,10 +180,6 @@ index-below i k (r ∷ rs) x h = go (sameBytes (r .name) x) h (index-below (suc 
 abbrev pub cleared : ℕ → List ℕ → List ℕ
 cleared n m = marked (λ _. 0) 1 n m
 
-pub length-table : (s : Bytes) (t : Table Span) → length (resolveTable s t) ≡ length t
-length-table s [] = refl
-length-table s (r ∷ t) = ap suc (length-table s t)
-
 module _ {rules rows : List ℕ} {text : Bytes} {m : List ℕ} (g : Given rules rows text m) where
   abbrev n : ℕ
   n = length rules / 4
@@ -220,11 +216,13 @@ module _ {rules rows : List ℕ} {text : Bytes} {m : List ℕ} (g : Given rules 
       pub all-met : v ≡ 1 → meets (resolveTable text t) ≡ true
       all-met e = meets-is (resolveTable text t) ∙ h .met cleared-known cleared-idle e
 
-      pub all-read : (v ≡ 1 → ⊥) → ReadAll (resolveTable text t) m′
-      all-read e =
+      -- the lists of rules are then told in other memories
+      pub all-read : {m″ : List ℕ} → (v ≡ 1 → ⊥) → Relisted m′ m″ → Targets (resolveTable text t) m″ → ReadAll (resolveTable text t) m″
+      all-read {m″} e r g =
           let x = h .settled cleared-known cleared-idle e in
           let st = marksOf (resolveTable text t) m′ in
+          let q : listsOf (resolveTable text t) m″ ≡ st = lists-same (x .known) r in
           record {
             never = meets-is (resolveTable text t) ∙ rules-mono (byMarks st) (nameList (resolveTable text t) []) (marks-below [] (x .known) (λ z b. absurd (false≢true b))) (resolveTable text t) (x .no);
-            lists = record { known = x .known; settled = rotated-rules (byMarks st) (resolveTable text t) ∙ x .no };
+            lists = record { known = rw q (x .known); settled = rw q (rotated-rules (byMarks st) (resolveTable text t) ∙ x .no); targets = g };
           }

@@ -1,20 +1,18 @@
 -- A table that is lent as words, with a mark of four words for each rule. Word 1 of a mark is the rule's memory. Assumes nothing.
 use mathlib.Core.Path.{_≡_}
-use mathlib.Core.Bool.{Bool, true, false, _&&_, cond}
+use mathlib.Core.Bool.{cond}
 use mathlib.Core.List.{List, [], _∷_}
 use mathlib.Core.Option.{Option, none, some}
 use Prim.Native.Nat.{ℕ, suc, _+_, _*_, _≤_}
 use lib.ListN.{length, getD}
-use lib.Dec.{eqb}
-use Rattle.grammar.specs.Basic.{Bytes, any, sameBytes}
-use Rattle.grammar.specs.Tree.{E, anyNode}
+use lib.Dec.{eqb, leb}
+use Rattle.grammar.specs.Basic.{Bytes, sameBytes}
 use Rattle.grammar.specs.Rows.{Span}
 use Rattle.grammar.specs.Table.{Table, ruleWords, rowWords, resolveTable}
-use Rattle.grammar.specs.Lists.{Reading, readIn, loopOver, isAgain}
-use Rattle.grammar.specs.Steps.{isAtomic, rotate}
+use Rattle.grammar.specs.Lists.{Reading}
 use Rattle.rows.specs.Rows.{Inside}
 use Rattle.names.specs.Names.{Hashed, Ended}
-use Rattle.skipper.specs.Memory.{Marks, Known, Reads, byMarks}
+use Rattle.skipper.specs.Memory.{Marks, Known, Reads}
 
 -- the number of the rule with that name, where the first is numbered i
 abbrev pub indexFrom : ℕ → Table Bytes → Bytes → Option ℕ
@@ -30,6 +28,15 @@ stateAt m (some i) = getD m (i * 4 + 1) 0
 unfoldable pub marksOf : Table Bytes → List ℕ → Marks
 unfolding sameBytes
 marksOf t m x = stateAt m (indexFrom 0 t x)
+
+-- once all lists are read, a memory above 3 is a list too
+abbrev pub capped : ℕ → ℕ
+capped w = cond (leb 3 w) 3 w
+
+-- the marks m as a memory of names, from then on
+unfoldable pub listsOf : Table Bytes → List ℕ → Marks
+unfolding marksOf
+listsOf t m x = capped (marksOf t m x)
 
 -- the words are those of the table t
 pub record Lent (rules rows : List ℕ) (t : Table Span) : Type 0 where

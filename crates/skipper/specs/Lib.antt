@@ -2,5 +2,6 @@
 pub mod Memory
 pub mod Lends
 pub mod Loops
+pub mod Ways
 pub mod Lists
 pub mod Skips

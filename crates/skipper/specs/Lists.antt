@@ -11,7 +11,8 @@ use Rattle.grammar.specs.Lists.{Reading, readIn, loopOver, isAgain}
 use Rattle.grammar.specs.Steps.{isAtomic, rotate}
 use Rattle.grammar.specs.Refusals.{meets}
 use Rattle.skipper.specs.Memory.{Known, byMarks}
-use Rattle.skipper.specs.Lends.{marksOf}
+use Rattle.skipper.specs.Lends.{listsOf}
+use Rattle.skipper.specs.Ways.{Targets}
 use Rattle.skipper.specs.declared.Readings.{Readings}
 use Rattle.skipper.specs.declared.Readings.the-variants.{Read, Again}
 
@@ -26,8 +27,9 @@ unreadAt look e = unreadIn look (loopOver e)
 
 -- the marks m settle every loop that step 2 meets in the table t
 pub record Lists (t : Table Bytes) (m : List ℕ) : Type 0 where
-  pub known : Known t (marksOf t m)
-  pub settled : any (λ r. isAtomic (r .type) && anyNode (unreadAt (byMarks (marksOf t m))) (rotate (r .body))) t ≡ false
+  pub known : Known t (listsOf t m)
+  pub settled : any (λ r. isAtomic (r .type) && anyNode (unreadAt (byMarks (listsOf t m))) (rotate (r .body))) t ≡ false
+  pub targets : Targets t m
 
 pub record ReadAll (t : Table Bytes) (m : List ℕ) : Type 0 where
   pub never : meets t ≡ false

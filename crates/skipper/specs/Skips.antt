@@ -2,27 +2,26 @@
 use mathlib.Core.Path.{_≡_}
 use mathlib.Core.Bool.{Bool, true, false}
 use mathlib.Core.List.{List}
-use mathlib.Core.Option.{Option, none, some}
-use Prim.Native.Nat.{ℕ, _+_, _/_, _^_, _≤_, _<_}
+use mathlib.Core.Option.{some}
+use Prim.Native.Nat.{ℕ, _+_, _-_, _/_, _^_, _≤_, _<_}
 use lib.ListN.{length}
 use Rattle.grammar.specs.Basic.{Bytes}
 use Rattle.grammar.specs.Tree.{Un, Expr, E, anyNode}
 use Rattle.grammar.specs.Rows.{Span}
 use Rattle.grammar.specs.Text.{bytesAt, resolve}
-use Rattle.grammar.specs.Table.{Table, resolveTable, find}
-use Rattle.grammar.specs.Lists.{Reading, nothing, strings, again, readIn, readName, loopOver, skipList}
+use Rattle.grammar.specs.Table.{Table, resolveTable}
+use Rattle.grammar.specs.Lists.{Reading, nothing, strings, again, readIn, loopOver, skipList}
 use Rattle.grammar.specs.Steps.{topDown, orSame, skip?}
 use Rattle.rows.specs.declared.Shape.{Shape}
 use Rattle.rows.specs.declared.Shape.the-variants.{Lit, Num, One, Two, Skips}
 use Rattle.rows.specs.Rows.{At, shapeOf, kindAt, xAt, yAt}
-use Rattle.names.specs.declared.Found.{Found}
-use Rattle.names.specs.declared.Found.the-variants as found
 use Rattle.writing.specs.declared.Place.{Place}
 use Rattle.writing.specs.declared.Wrote.{Wrote}
 use Rattle.writing.specs.Writes.{Written, Answer}
 use Rattle.chains.specs.Runs.{wrap}
 use Rattle.skipper.specs.Memory.{Known, byMarks}
-use Rattle.skipper.specs.Lends.{marksOf, Lent, Given}
+use Rattle.skipper.specs.Lends.{listsOf, Lent}
+use Rattle.skipper.specs.Ways.{Spells, Targets, Led}
 use Rattle.skipper.specs.Lists.{unreadAt}
 use Rattle.skipper.specs.declared.Loop.{Loop}
 use Rattle.skipper.specs.declared.Loop.the-variants.{Over, Nothing}
@@ -60,11 +59,6 @@ abbrev pub ListAnswer : Loop → List ℕ → Bytes → (Bytes → Reading) → 
 ListAnswer (Over i) w s look e = ListAt i w s look e
 ListAnswer Nothing w s look e = (x : E) → loopOver e ≡ some x → isList (readIn look x) ≡ false
 
--- the reading f, with names read through at most n rules, gives the strings ss
-pub record Spells (t : Table Bytes) (n : ℕ) (f : (Bytes → Reading) → Reading) (ss : List Bytes) : Type 0 where
-  pub opened : List Bytes
-  pub reads : f (readName n t opened) ≡ strings ss
-
 -- some expression stands at row i of the words w with the text s, and `read` gives a list of it; names are those of a lent table with the text u
 pub record Spelled (rules rows : List ℕ) (u : Bytes) (w : List ℕ) (s : Bytes) (i n : ℕ) (read : (Bytes → Reading) → E → Reading) : Type 0 where
   pub table : Table Span
@@ -78,20 +72,16 @@ pub record Spelled (rules rows : List ℕ) (u : Bytes) (w : List ℕ) (s : Bytes
 abbrev pub literalAt : List ℕ → Bytes → ℕ → Bytes
 literalAt w s i = bytesAt s (xAt w i, yAt w i)
 
--- the rules of some rows are lent, with their marks
+-- the rules of some rows are lent so
 pub record Named (rules : List ℕ) (u : Bytes) (m : List ℕ) : Type 0 where
   pub rows : List ℕ
-  pub given : Given rules rows u m
+  pub led : Led rules rows u m
 
--- the expression that x names in the table t stands at row j
+-- the expression at row j gives whatever strings the name x gives in the table t, through a rule less
 pub record BodyAt (j : ℕ) (w : List ℕ) (u : Bytes) (t : Table Span) (x : Bytes) : Type 0 where
   pub tree : Expr Span
   pub at : At w j tree
-  pub is : find (resolveTable u t) x ≡ some (resolve u tree)
-
-abbrev pub BodyAnswer : Found → List ℕ → Bytes → Table Span → Bytes → Type 0
-BodyAnswer (found.At j) w u t x = BodyAt j w u t x
-BodyAnswer found.Nothing w u t x = find (resolveTable u t) x ≡ none
+  pub gives : (n : ℕ) (ss : List Bytes) → Spells (resolveTable u t) n (λ look. look x) ss → Spells (resolveTable u t) (n - 1) (λ look. readIn look (resolve u tree)) ss
 
 -- some loop's expression stands at row i, and it has a list
 pub record Skipped (rules rows : List ℕ) (u : Bytes) (w : List ℕ) (s : Bytes) (i : ℕ) : Type 0 where
@@ -104,8 +94,9 @@ pub record Skipped (rules rows : List ℕ) (u : Bytes) (w : List ℕ) (s : Bytes
 
 -- the marks m settle every loop of the tree e
 pub record Settles (t : Table Bytes) (m : List ℕ) (e : E) : Type 0 where
-  pub known : Known t (marksOf t m)
-  pub settled : anyNode (unreadAt (byMarks (marksOf t m))) e ≡ false
+  pub known : Known t (listsOf t m)
+  pub settled : anyNode (unreadAt (byMarks (listsOf t m))) e ≡ false
+  pub targets : Targets t m
 
 -- some tree stands at row i, and the marks settle its loops
 pub record Settling (rules rows : List ℕ) (u : Bytes) (m w : List ℕ) (s : Bytes) (i : ℕ) : Type 0 where
@@ -128,7 +119,7 @@ pub record Fell (t : Table Bytes) (m w : List ℕ) (s : Bytes) (root base : ℕ)
 -- that tree is a loop over row i, which has a list
 pub record FellLoop (t : Table Bytes) (m w : List ℕ) (s : Bytes) (root base i : ℕ) (r : Expr Span) : Type 0 where
   pub fell : Fell t m w s root base r
-  pub list : ListAt i w s (byMarks (marksOf t m)) (resolve s (fell .tree))
+  pub list : ListAt i w s (byMarks (listsOf t m)) (resolve s (fell .tree))
 
 -- it has two children, and k is its kind
 pub record FellFork (t : Table Bytes) (m w : List ℕ) (s : Bytes) (root base k : ℕ) (r : Expr Span) : Type 0 where

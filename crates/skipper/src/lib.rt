@@ -1,5 +1,5 @@
 // Skip lists. A rule's memory is word 1 of its mark: 0 not read, 1 being read, 2 no list, 3 a list. The same numbers are a reading's answer,
-// where 1 says that it came to a rule that is being read.
+// where 1 says that it came to a rule that is being read. Once all are read, a list is 3 + k: its strings are read in rule k's expression.
 ghost use mathlib.Core.Path.{_≡_};
 ghost use mathlib.Core.Bool.{false};
 ghost use mathlib.Core.List.{List};
@@ -15,14 +15,15 @@ ghost use Rattle.grammar.specs.Lists.{strings, readLeft, readIn, loopOver, skip
 ghost use Rattle.grammar.specs.Steps.{rotate, isAtomic, topDown, orSame, skip?, skipTo};
 ghost use Rattle.rows.specs.Rows.{Inside, At, Stands, kindAt, sizeAt};
 ghost use Rattle.writing.specs.Writes.{Room, RowAnswer, LitAnswer, StrsAnswer, Answer};
-ghost use Rattle.names.specs.Names.{First, Hashed, marked};
+ghost use Rattle.names.specs.Names.{First, Hashed, IsName, marked};
 ghost use Rattle.chains.specs.Runs.{wrap};
 ghost use Rattle.skipper.specs.Memory.{byMarks};
-ghost use Rattle.skipper.specs.Lends.{marksOf, Given, Lent, Ran, ReadsOf};
+ghost use Rattle.skipper.specs.Lends.{listsOf, Given, Lent, Ran, ReadsOf};
 ghost use Rattle.skipper.specs.Loops.{LoopAnswer, TreeRows, openAt, ruleOpen, LoopsOf};
+ghost use Rattle.skipper.specs.Ways.{Spells, Gives, toldAt, TargetsOf, Targets, Leading, Relisted, Led};
 ghost use Rattle.skipper.specs.Lists.{ListsAnswer};
 ghost use Rattle.skipper.specs.declared.Node.the-variants.{Pair};
-ghost use Rattle.skipper.specs.Skips.{nodeOf, isList, ListAnswer, Spells, Spelled, literalAt, Named, BodyAnswer, Skipped, Settles, Settling, FallAnswer, Rising, RisenAnswer};
+ghost use Rattle.skipper.specs.Skips.{nodeOf, isList, ListAnswer, Spelled, literalAt, Named, BodyAt, Skipped, Settles, Settling, FallAnswer, Rising, RisenAnswer};
 use names::Found;
 use rows::Lookup;
 use rows::Shape;
@@ -335,6 +336,119 @@ fn forget(marks: &mut [u32], count: usize)
     }
 }
 
+// The rule in whose expression the strings of rule i are read.
+fn told(marks: &[u32], i: usize) -> usize
+    requires { ⌜ i * 4 + 1 < length (now marks) ⌝ }
+    ensures { λ k. ⌜ k ≡ toldAt (now (marks .entry)) i ⌝ }
+{
+    let w = marks[i * 4 + 1];
+    if w >= LIST { wide(w - LIST) } else { i }
+}
+
+// The rule that the expression of rule i names, where it is an Ident, else rule i.
+fn named_by(rules: &[u32], rows: &[u32], text: &[u8], marks: &[u32], i: usize) -> usize
+    requires { ⌜ Given (now rules) (now rows) (now text) (now marks) ⌝ }
+    requires { ⌜ i < length (now rules) / 4 ⌝ }
+    ensures { λ j. ⌜ ((t : Table Span) → Lent (now (rules .entry)) (now (rows .entry)) t → Gives (resolveTable (now (text .entry)) t) i j) ⌝ }
+{
+    let end = wide(marks[i * 4 + 3]);
+    let Lookup::Row {
+        kind,
+        x,
+        y,
+        size: _,
+    } = rows::row_at(rows, end - 1)
+    else {
+        return i;
+    };
+    if kind != 3 {
+        return i;
+    }
+    let Found::At(j) = names::find_rule(rules, text, marks, text, wide(x), wide(y)) else {
+        return i;
+    };
+    j
+}
+
+// Tells rule i, if it has a list, which rule it names. Whether that is another.
+fn tell(rules: &[u32], rows: &[u32], text: &[u8], marks: &mut [u32], i: usize) -> bool
+    requires { ⌜ Given (now rules) (now rows) (now text) (now marks) ⌝ }
+    requires { ⌜ i < length (now rules) / 4 ⌝ }
+    ensures { λ _. ⌜ Relisted (now (marks .entry)) (now (marks .exit)) ⌝ }
+    ensures { λ _. ⌜ ((t : Table Span) → Lent (now (rules .entry)) (now (rows .entry)) t → TargetsOf i (resolveTable (now (text .entry)) t) (now (marks .entry)) → TargetsOf (i + 1) (resolveTable (now (text .entry)) t) (now (marks .exit))) ⌝ }
+{
+    if marks[i * 4 + 1] < LIST {
+        return false;
+    }
+    let j = named_by(rules, rows, text, marks, i);
+    marks[i * 4 + 1] = LIST + j as u32;
+    j != i
+}
+
+// Tells every rule that has a list which rule it names. Whether one of them names another.
+fn tell_all(rules: &[u32], rows: &[u32], text: &[u8], marks: &mut [u32]) -> bool
+    requires { ⌜ Given (now rules) (now rows) (now text) (now marks) ⌝ }
+    ensures { λ _. ⌜ Relisted (now (marks .entry)) (now (marks .exit)) ⌝ }
+    ensures { λ _. ⌜ ((t : Table Span) → Lent (now (rules .entry)) (now (rows .entry)) t → Targets (resolveTable (now (text .entry)) t) (now (marks .exit))) ⌝ }
+{
+    let count = rules.len() / 4;
+    let mut others = false;
+    let mut i = 0;
+    while i < count {
+        if tell(rules, rows, text, marks, i) {
+            others = true;
+        }
+        i += 1;
+    }
+    others
+}
+
+// Rule i was told rule k: tells it what rule k was told.
+fn pass_on(marks: &mut [u32], i: usize)
+    requires { ⌜ i * 4 + 1 < length (now marks) ⌝ }
+    requires { ⌜ toldAt (now marks) i * 4 + 1 < length (now marks) ⌝ }
+    ensures { λ _. ⌜ Relisted (now (marks .entry)) (now (marks .exit)) ⌝ }
+    ensures { λ _. ⌜ ((t : Table Bytes) → i < length t → Targets t (now (marks .entry)) → Targets t (now (marks .exit))) ⌝ }
+{
+    let k = told(marks, i);
+    let w = marks[k * 4 + 1];
+    if w >= LIST {
+        marks[i * 4 + 1] = w;
+    }
+}
+
+// The same for each of `count` rules: each then spans at least twice as many steps of its way, or all.
+fn pass_all(marks: &mut [u32], count: usize)
+    requires { ⌜ count * 4 ≤ length (now marks) ⌝ }
+    requires { ⌜ Leading count (now marks) ⌝ }
+    ensures { λ _. ⌜ Relisted (now (marks .entry)) (now (marks .exit)) ⌝ }
+    ensures { λ _. ⌜ ((t : Table Bytes) → count ≡ length t → Targets t (now (marks .entry)) → Targets t (now (marks .exit))) ⌝ }
+{
+    let mut i = 0;
+    while i < count {
+        pass_on(marks, i);
+        i += 1;
+    }
+}
+
+// Tells every rule that has a list in which rule's expression its strings are read, past rules that only name another.
+fn shorten(rules: &[u32], rows: &[u32], text: &[u8], marks: &mut [u32])
+    requires { ⌜ Given (now rules) (now rows) (now text) (now marks) ⌝ }
+    ensures { λ _. ⌜ Relisted (now (marks .entry)) (now (marks .exit)) ⌝ }
+    ensures { λ _. ⌜ ((t : Table Span) → Lent (now (rules .entry)) (now (rows .entry)) t → Targets (resolveTable (now (text .entry)) t) (now (marks .exit))) ⌝ }
+{
+    let count = rules.len() / 4;
+    // most tables have no way to shorten
+    if !tell_all(rules, rows, text, marks) {
+        return;
+    }
+    let mut steps = 1;
+    while steps < count {
+        pass_all(marks, count);
+        steps *= 2;
+    }
+}
+
 // Reads every skip list of a table as it was given. Again is refusal 7.
 pub fn read_lists(rules: &[u32], rows: &[u32], text: &[u8], marks: &mut [u32]) -> Readings
     requires { ⌜ Given (now rules) (now rows) (now text) (now marks) ⌝ }
@@ -346,6 +460,7 @@ pub fn read_lists(rules: &[u32], rows: &[u32], text: &[u8], marks: &mut [u32]) -
     if a == AGAIN {
         Readings::Again
     } else {
+        shorten(rules, rows, text, marks);
         Readings::Read
     }
 }
@@ -375,7 +490,7 @@ fn leaf_listed(
     requires { ⌜ Hashed (now rules) (now given) (now marks) ⌝ }
     requires { ⌜ Inside (now rows) (length (now text)) ⌝ }
     requires { ⌜ Stands (now rows) root ⌝ }
-    ensures { λ b. ⌜ ((t : Table Span) (r : Expr Span) → now (rules .entry) ≡ ruleWords t → At (now (rows .entry)) root r → b ≡ isList (readLeft (byMarks (marksOf (resolveTable (now (given .entry)) t) (now (marks .entry)))) (resolve (now (text .entry)) r))) ⌝ }
+    ensures { λ b. ⌜ ((t : Table Span) (r : Expr Span) → now (rules .entry) ≡ ruleWords t → At (now (rows .entry)) root r → b ≡ isList (readLeft (byMarks (listsOf (resolveTable (now (given .entry)) t) (now (marks .entry)))) (resolve (now (text .entry)) r))) ⌝ }
 {
     let Lookup::Row {
         kind,
@@ -395,7 +510,7 @@ fn leaf_listed(
     let Found::At(i) = names::find_rule(rules, given, marks, text, wide(x), wide(y)) else {
         return false;
     };
-    marks[i * 4 + 1] == LIST
+    marks[i * 4 + 1] >= LIST
 }
 
 // Whether an expression has a list, by the marks.
@@ -410,7 +525,7 @@ fn listed(
     requires { ⌜ Hashed (now rules) (now given) (now marks) ⌝ }
     requires { ⌜ Inside (now rows) (length (now text)) ⌝ }
     requires { ⌜ Stands (now rows) root ⌝ }
-    ensures { λ b. ⌜ ((t : Table Span) (r : Expr Span) → now (rules .entry) ≡ ruleWords t → At (now (rows .entry)) root r → b ≡ isList (readIn (byMarks (marksOf (resolveTable (now (given .entry)) t) (now (marks .entry)))) (resolve (now (text .entry)) r))) ⌝ }
+    ensures { λ b. ⌜ ((t : Table Span) (r : Expr Span) → now (rules .entry) ≡ ruleWords t → At (now (rows .entry)) root r → b ≡ isList (readIn (byMarks (listsOf (resolveTable (now (given .entry)) t) (now (marks .entry)))) (resolve (now (text .entry)) r))) ⌝ }
 {
     let Lookup::Row {
         kind,
@@ -453,7 +568,7 @@ fn list_at(
     requires { ⌜ Hashed (now rules) (now given) (now marks) ⌝ }
     requires { ⌜ Inside (now rows) (length (now text)) ⌝ }
     requires { ⌜ Stands (now rows) root ⌝ }
-    ensures { λ a. ⌜ ((t : Table Span) (r : Expr Span) → now (rules .entry) ≡ ruleWords t → At (now (rows .entry)) root r → ListAnswer a (now (rows .entry)) (now (text .entry)) (byMarks (marksOf (resolveTable (now (given .entry)) t) (now (marks .entry)))) (resolve (now (text .entry)) r)) ⌝ }
+    ensures { λ a. ⌜ ((t : Table Span) (r : Expr Span) → now (rules .entry) ≡ ruleWords t → At (now (rows .entry)) root r → ListAnswer a (now (rows .entry)) (now (text .entry)) (byMarks (listsOf (resolveTable (now (given .entry)) t) (now (marks .entry)))) (resolve (now (text .entry)) r)) ⌝ }
 {
     let Lookup::Row {
         kind,
@@ -516,7 +631,7 @@ fn put_str(
     writing::put_lit(text, x, n, 0, out, lits, p)
 }
 
-// The row of the expression of the rule that the Ident of row `root` names, in the table with the text `given_text`.
+// The row of an expression that gives the strings of the Ident of row `root`, which names a rule of the table with the text `given_text`.
 fn body_of(
     given_rules: &[u32],
     given_text: &[u8],
@@ -524,21 +639,20 @@ fn body_of(
     rows: &[u32],
     text: &[u8],
     root: usize,
-) -> Found
+) -> usize
     requires { ⌜ Named (now «given_rules») (now «given_text») (now marks) ⌝ }
     requires { ⌜ Inside (now rows) (length (now text)) ⌝ }
     requires { ⌜ root < length (now rows) / 4 ⌝ }
     requires { ⌜ kindAt (now rows) root ≡ 3 ⌝ }
-    ensures { λ a. ⌜ ((w : List ℕ) (t : Table Span) → Lent (now («given_rules» .entry)) w t → BodyAnswer a w (now («given_text» .entry)) t (literalAt (now (rows .entry)) (now (text .entry)) root)) ⌝ }
+    requires { ⌜ IsName (now «given_rules») (now «given_text») (literalAt (now rows) (now text) root) ⌝ }
+    ensures { λ j. ⌜ ((w : List ℕ) (t : Table Span) → Lent (now («given_rules» .entry)) w t → Targets (resolveTable (now («given_text» .entry)) t) (now (marks .entry)) → BodyAt j w (now («given_text» .entry)) t (literalAt (now (rows .entry)) (now (text .entry)) root)) ⌝ }
 {
     let at = root * 4;
-    let x = rows[at + 1];
-    let y = rows[at + 2];
-    let Found::At(i) = names::find_rule(given_rules, given_text, marks, text, wide(x), wide(y))
-    else {
-        return Found::Nothing;
-    };
-    Found::At(wide(marks[i * 4 + 3]) - 1)
+    let x = wide(rows[at + 1]);
+    let y = wide(rows[at + 2]);
+    let i = names::find_known(given_rules, given_text, marks, text, x, y);
+    let k = told(marks, i);
+    wide(marks[k * 4 + 3]) - 1
 }
 
 // Writes the strings of a literal: itself, or those of the rule that it names, through at most `fuel` rules.
@@ -555,7 +669,7 @@ fn write_leaf(
     lits: &mut [u8],
     p: Place,
 ) -> Wrote
-    requires { ⌜ Given (now «given_rules») (now «given_rows») (now «given_text») (now marks) ⌝ }
+    requires { ⌜ Led (now «given_rules») (now «given_rows») (now «given_text») (now marks) ⌝ }
     requires { ⌜ Inside (now rows) (length (now text)) ⌝ }
     requires { ⌜ Spelled (now «given_rules») (now «given_rows») (now «given_text») (now rows) (now text) root fuel readLeft ⌝ }
     requires { ⌜ Room p (now out) (now lits) ⌝ }
@@ -564,9 +678,7 @@ fn write_leaf(
     if kind_at(rows, root) == 0 {
         return put_str(rows, text, root, out, lits, p);
     }
-    let Found::At(body) = body_of(given_rules, given_text, marks, rows, text, root) else {
-        return Wrote::Full;
-    };
+    let body = body_of(given_rules, given_text, marks, rows, text, root);
     write_rule(
         given_rules,
         given_rows,
@@ -592,7 +704,7 @@ fn write_rule(
     lits: &mut [u8],
     p: Place,
 ) -> Wrote
-    requires { ⌜ Given (now rules) (now rows) (now text) (now marks) ⌝ }
+    requires { ⌜ Led (now rules) (now rows) (now text) (now marks) ⌝ }
     requires { ⌜ Spelled (now rules) (now rows) (now text) (now rows) (now text) root fuel readIn ⌝ }
     requires { ⌜ Room p (now out) (now lits) ⌝ }
     ensures { λ a. ⌜ ((t : Table Span) (r : Expr Span) (ss : List Bytes) → Lent (now (rules .entry)) (now (rows .entry)) t → At (now (rows .entry)) root r → Spells (resolveTable (now (text .entry)) t) fuel (λ look. readIn look (resolve (now (text .entry)) r)) ss → StrsAnswer a p ss (now (out .entry)) (now (out .exit)) (now (lits .entry)) (now (lits .exit))) ⌝ }
@@ -621,10 +733,7 @@ fn write_rule(
             q = s;
             at -= 1;
         } else {
-            let Found::At(body) = body_of(rules, text, marks, rows, text, at) else {
-                return Wrote::Full;
-            };
-            at = body;
+            at = body_of(rules, text, marks, rows, text, at);
             fuel_left -= 1;
         }
     }
@@ -645,7 +754,7 @@ fn write_list(
     lits: &mut [u8],
     p: Place,
 ) -> Wrote
-    requires { ⌜ Given (now «given_rules») (now «given_rows») (now «given_text») (now marks) ⌝ }
+    requires { ⌜ Led (now «given_rules») (now «given_rows») (now «given_text») (now marks) ⌝ }
     requires { ⌜ Inside (now rows) (length (now text)) ⌝ }
     requires { ⌜ Spelled (now «given_rules») (now «given_rows») (now «given_text») (now rows) (now text) root fuel readIn ⌝ }
     requires { ⌜ Room p (now out) (now lits) ⌝ }
@@ -710,7 +819,7 @@ fn write_skip(
     lits: &mut [u8],
     p: Place,
 ) -> Wrote
-    requires { ⌜ Given (now «given_rules») (now «given_rows») (now «given_text») (now marks) ⌝ }
+    requires { ⌜ Led (now «given_rules») (now «given_rows») (now «given_text») (now marks) ⌝ }
     requires { ⌜ Inside (now rows) (length (now text)) ⌝ }
     requires { ⌜ Skipped (now «given_rules») (now «given_rows») (now «given_text») (now rows) (now text) root ⌝ }
     requires { ⌜ Room p (now out) (now lits) ⌝ }
@@ -840,7 +949,7 @@ fn skip_loop(
     lits: &mut [u8],
     p: Place,
 ) -> Wrote
-    requires { ⌜ Given (now «given_rules») (now «given_rows») (now «given_text») (now marks) ⌝ }
+    requires { ⌜ Led (now «given_rules») (now «given_rows») (now «given_text») (now marks) ⌝ }
     requires { ⌜ Inside (now rows) (length (now text)) ⌝ }
     requires { ⌜ Skipped (now «given_rules») (now «given_rows») (now «given_text») (now rows) (now text) e ⌝ }
     requires { ⌜ (base ≤ root) × (root < length (now rows) / 4) ⌝ }

@@ -1,16 +1,14 @@
 -- What each step asks of the table that it is put on, met in the order of the chain. Assumes nothing.
 use mathlib.Core.Path.{_≡_, refl, sym, ap, ap₂, _∙_, subst}
 use mathlib.Core.Bool.{true≢false, Bool, true, false, _&&_, _||_, cond}
-use mathlib.Core.List.{List, [], _∷_, _++_}
+use mathlib.Core.List.{List, [], _∷_}
 use mathlib.Core.Option.{Option, none, some}
-use Prim.Native.Nat.{ℕ, zero, suc, _-_}
+use Prim.Native.Nat.{ℕ, zero, suc}
 use native.Mathlib.Omega.{arith}
-use lib.ListN.{length, drop}
-use lib.Seq.{drop-append-seam}
 use Rattle.grammar.specs.Basic.{Bytes, any, orElse}
-use Rattle.grammar.specs.Tree.{Bin, Seq, Choice, E, Expr, lit, fixed, skip, un, bin, size, anyNode}
-use Rattle.grammar.specs.Rows.{Span, flat}
-use Rattle.grammar.specs.Table.{Rule, Table, ruleWords, rowWords, tableText, packedFrom, resolveTable, wordsOf}
+use Rattle.grammar.specs.Tree.{Bin, Seq, Choice, E, lit, fixed, skip, un, bin, size, anyNode}
+use Rattle.grammar.specs.Rows.{Span}
+use Rattle.grammar.specs.Table.{Rule, Table, tableText, packedFrom, resolveTable, wordsOf}
 use Rattle.grammar.specs.Text.{resolve}
 use Rattle.grammar.specs.Lists.{skipList, loopOver, asStrings}
 use Rattle.grammar.specs.Steps.{children, topDownIn, orSame, isAtomic, rotated, rotateAt, rotate, skip?, skipTo, each}
@@ -18,11 +16,9 @@ use Rattle.grammar.specs.Refusals.{zeroUn, zeroCount, zeroCounts}
 use Rattle.grammar.specs.Optimize.{stages}
 use Rattle.grammar.proofs.Logic.{some-eq, bind-case}
 use Rattle.grammar.proofs.Packing.{table-resolved}
-use Rattle.grammar.proofs.TopDown.{size-pos}
-use Rattle.rows.specs.Rows.{At}
-use Rattle.rows.proofs.Views.{at-unique}
+use Rattle.skipper.proofs.Words.{same-words}
 use Rattle.skipper.specs.Memory.{byMarks}
-use Rattle.skipper.specs.Lends.{Given, marksOf}
+use Rattle.skipper.specs.Lends.{Given, listsOf}
 use Rattle.skipper.specs.Skips as skipper
 use Rattle.skipper.specs.Lists.{Lists, unreadAt}
 use Rattle.restorer.specs.Lends.{Marked, Settles}
@@ -76,33 +72,6 @@ pub stages-seven : (t : Table Bytes) →
     stages t ≡ t ∷ t1 ∷ t2 ∷ t3 ∷ t4 ∷ t5 ∷ t6 ∷ t7 ∷ []
 unfolding stages stepOf
 stages-seven t = refl
-
--- A table is known by its words
-
-at-front : (r : Expr Span) (rest : List ℕ) (n : ℕ) → size r ≡ n → At (flat r ++ rest) (n - 1) r
-at-front r rest n e = record { before = []; after = rest; whole = refl; place = omega (arith, size-pos r) }
-
-front-body : (r s : Expr Span) (x y : List ℕ) → size r ≡ size s → flat r ++ x ≡ flat s ++ y → r ≡ s
-front-body r s x y e h = at-unique r s (at-front r x (size s) e) (subst (λ (w : List ℕ). At w (size s - 1) s) (sym h) (at-front s y (size s) refl))
-
-rest-same : (a x y : List ℕ) → a ++ x ≡ a ++ y → x ≡ y
-rest-same a x y h = sym (drop-append-seam a x) ∙ ap (drop (length a)) h ∙ drop-append-seam a y
-
-same-words : (t u : Table Span) → ruleWords t ≡ ruleWords u → rowWords t ≡ rowWords u → t ≡ u
-same-words [] [] h k = refl
-same-words [] (s ∷ u) h k = let z : _≡_ {A = ℕ} 0 1 = cc in absurd (omega arith)
-same-words (r ∷ t) [] h k = let z : _≡_ {A = ℕ} 0 1 = cc in absurd (omega arith)
-same-words (r ∷ t) (s ∷ u) h k =
-    let a : r .name .0 ≡ s .name .0 = cc in
-    let b : r .name .1 ≡ s .name .1 = cc in
-    let c : r .type ≡ s .type = cc in
-    let n : size (r .body) ≡ size (s .body) = cc in
-    let l : ruleWords t ≡ ruleWords u = cc in
-    let d : r .body ≡ s .body = front-body (r .body) (s .body) (rowWords t) (rowWords u) n k in
-    let m : rowWords t ≡ rowWords u = rest-same (flat (s .body)) (rowWords t) (rowWords u) (subst (λ (e : Expr Span). flat e ++ rowWords t ≡ flat (s .body) ++ rowWords u) d k) in
-    let q : t ≡ u = same-words t u l m in
-    let e : _≡_ {A = Span} (r .name) (s .name) = ap₂ (λ (i j : ℕ). (i, j)) a b in
-    ap₂ (λ (x : Span) (y : ℕ). record { name = x; type = y; body = r .body } ∷ t) e c ∙ ap₂ (λ (x : Expr Span) (y : Table Span). record { name = s .name; type = s .type; body = x } ∷ y) d q
 
 -- ONE TABLE IS LENT
 pub unique-table : {t u : Table Span} {rs ws : List ℕ} → Lent t rs ws → Lent u rs ws → t ≡ u
@@ -222,7 +191,7 @@ atomic y b e h = rw e at h
 
 module _ {rs₀ ws₀ : List ℕ} {text₀ : Bytes} {marks : List ℕ} (g : Given rs₀ ws₀ text₀ marks) (ls : (gs : Table Span) → Lent gs rs₀ ws₀ → Lists (resolveTable text₀ gs) marks) (gs : Table Span) (l : Lent gs rs₀ ws₀) where
   abbrev unread : E → Bool
-  unread = unreadAt (byMarks (marksOf (resolveTable text₀ gs) marks))
+  unread = unreadAt (byMarks (listsOf (resolveTable text₀ gs) marks))
 
   abbrev turned : Table Bytes
   turned = each (stepOf 1 (resolveTable text₀ gs)) (resolveTable text₀ gs)
@@ -238,7 +207,7 @@ module _ {rs₀ ws₀ : List ℕ} {text₀ : Bytes} {marks : List ℕ} (g : Give
         record {
           counts = λ e. absurd (omega arith);
           given = λ _. g;
-          settles = λ _ y us m. subst (λ (x : Table Span). skipper.Settles (resolveTable text₀ x) marks (resolve text (r .body))) (unique-table l m) (record { known = ls gs l .known; settled = atomic (r .type) (anyNode unread (resolve text (r .body))) y (p .0) });
+          settles = λ _ y us m. subst (λ (x : Table Span). skipper.Settles (resolveTable text₀ x) marks (resolve text (r .body))) (unique-table l m) (record { targets = ls gs l .targets; known = ls gs l .known; settled = atomic (r .type) (anyNode unread (resolve text (r .body))) y (p .0) });
           marked = λ e. absurd (omega arith);
           known = λ e. absurd (omega arith);
           same-rows = λ e. absurd (omega arith);

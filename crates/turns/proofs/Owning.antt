@@ -1,19 +1,24 @@
 -- A step on a packed table that looks into that table alone, and its marks. Assumes nothing.
-use mathlib.Core.Path.{_≡_, refl, subst}
+use mathlib.Core.Path.{_≡_, refl, sym, ap, subst, _∙_}
 use mathlib.Core.List.{List}
 use Prim.Native.Nat.{ℕ, _*_, _≤_}
 use native.Mathlib.Omega.{arith}
 use lib.ListN.{length, take}
 use Rattle.grammar.specs.Basic.{Bytes}
 use Rattle.grammar.specs.Rows.{Span}
-use Rattle.grammar.specs.Table.{Table, packedFrom, resolveTable, tableText}
+use Rattle.grammar.specs.Table.{Table, ruleWords, packedFrom, resolveTable, tableText}
+use Rattle.grammar.specs.Refusals.{names}
+use Rattle.grammar.proofs.TopDown.{each-names}
+use Rattle.grammar.specs.Optimize.{lastOf}
 use Rattle.grammar.specs.Steps.{each}
-use Rattle.names.specs.Names.{Hashed}
+use Rattle.names.specs.Names.{NamesInside, Hashed}
+use Rattle.names.proofs.Finding.{hashed-moved}
 use Rattle.writing.specs.declared.Place.{Place}
 use Rattle.writing.specs.declared.Wrote.{Wrote}
+use Rattle.writing.specs.declared.Wrote.the-variants.{Done, Full}
 use Rattle.restorer.specs.Lends.{Marked}
 use Rattle.passes.specs.Passes.{stepOf, AsksAll, Lent, Holds, Front, TableFits, PassAnswer}
-use Rattle.turns.specs.Chain.{Turning, Works, Stands, Restorable, Owns, after}
+use Rattle.turns.specs.Chain.{Turning, Works, Stands, Restorable, Owns, after, firstFive}
 use Rattle.turns.proofs.Fronts.{front-is, front-within}
 use Rattle.turns.proofs.Turns.{holds-part}
 use Rattle.turns.proofs.Asking.{asks-all}
@@ -65,7 +70,7 @@ own-answer a step t n os₂ o₂ s₂ os′ o′ s′ f e p =
     let h = holds-part t n e f in
     subst (λ (x : Table Bytes). PassAnswer a (each (stepOf step x) t) os₂ o₂ s₂ os′ o′ s′) (front-is t f) (p (record { rules = h .rules; rows = h .rows }))
 
--- with the hashes of its names
+-- with the index of its names
 pub stands-marked : {n : ℕ} {q : Place} {os o s m : List ℕ} → Stands n q os o s → Hashed (take n os) (take (q .text) s) m → Marked (take n os) (take (q .rows * 4) o) (take (q .text) s) m
 stands-marked k d =
     let h = stands-holds k in
@@ -85,3 +90,28 @@ owns-seven r = record { no-lists = λ e. omega (arith, e); no-counts = λ e. ome
 
 pub stands-after : (step : ℕ) {n : ℕ} {p q : Place} {os o s os′ o′ s′ : List ℕ} (k : Stands n p os o s) → Front q (after step (k .table) (k .table)) os′ o′ s′ → Stands n q os′ o′ s′
 stands-after step {n} k f = record { table = after step (k .table) (k .table); front = f; count = count-after step n (k .table) (k .table) (k .count) }
+
+-- ---- no step changes a name
+
+-- the index of a table's names is that of a packed table with these names
+moved : (t : Table Span) (u : Table Bytes) {rules : List ℕ} {text : Bytes} {m : List ℕ} {n : ℕ} {q : Place} {os o s : List ℕ} → n ≡ length u * 4 → Front q u os o s → ruleWords t ≡ rules → names u ≡ names (resolveTable text t)
+    → Hashed rules text m → Hashed (take n os) (take (q .text) s) m
+moved t u {rules} {text} {m} {n} {q} {os} {o} {s} c f e g d =
+    let h = holds-part u n c f in
+    subst (λ (x : List ℕ). Hashed x (take (q .text) s) m) (h .rules)
+    (hashed-moved t (packedFrom 0 u) (ap names (front-is u f) ∙ g)
+    (subst (λ (x : List ℕ). NamesInside x (length (take (q .text) s))) (sym (h .rules)) (h .names))
+    (subst (λ (x : List ℕ). Hashed x text m) (sym e) d))
+
+pub moved-after : (step : ℕ) {n : ℕ} {p q : Place} {os o s os′ o′ s′ m : List ℕ} (k : Stands n p os o s) → Front q (after step (k .table) (k .table)) os′ o′ s′ → Hashed (take n os) (take (p .text) s) m → Hashed (take n os′) (take (q .text) s′) m
+moved-after step {n} k f d =
+    let t : Table Bytes = k .table in
+    moved (packedFrom 0 t) (after step t t) (count-after step n t t (k .count)) f (stands-holds k .rules) (each-names (stepOf step t) t ∙ sym (ap names (front-is t (k .front)))) d
+
+pub moved-five : (t : Table Span) {rules : List ℕ} {text : Bytes} {m : List ℕ} {q : Place} {os o s : List ℕ} → let u = lastOf (firstFive (resolveTable text t)) in length rules ≡ length u * 4 → Front q u os o s → ruleWords t ≡ rules → Hashed rules text m → Hashed (take (length rules) os) (take (q .text) s) m
+moved-five t {text = text} c f e d = moved t (lastOf (firstFive (resolveTable text t))) c f e (simp each-names) d
+
+-- of an area that a pass is lent only its length counts
+pub pass-lent : (a : Wrote) (t : Table Bytes) (os os₁ o s os′ o′ s′ : List ℕ) → length os₁ ≡ length os → PassAnswer a t os₁ o s os′ o′ s′ → PassAnswer a t os o s os′ o′ s′
+pass-lent (Done q) t os os₁ o s os′ o′ s′ e h = h
+pass-lent Full t os os₁ o s os′ o′ s′ e h = λ f. h (record { rules = omega (arith, f .rules, e); rows = f .rows; text = f .text })

@@ -2,12 +2,13 @@
 ghost use mathlib.Core.Path.{_≡_};
 ghost use mathlib.Core.List.{[], _∷_};
 ghost use Prim.Native.Nat.{ℕ, _+_, _*_, _/_, _^_, _≤_, _<_};
-ghost use lib.ListN.{length};
+ghost use lib.ListN.{length, take};
 ghost use Rattle.grammar.specs.Basic.{Bytes};
 ghost use Rattle.grammar.specs.Rows.{Span};
 ghost use Rattle.grammar.specs.Table.{Table, resolveTable};
 ghost use Rattle.grammar.specs.Steps.{each};
 ghost use Rattle.writing.specs.Writes.{Areas};
+ghost use Rattle.names.specs.Names.{Hashed};
 ghost use Rattle.passes.specs.Passes.{stepOf, Lent, Front, PassAnswer};
 ghost use Rattle.turns.specs.Chain.{Turning, Turns, after, TwoAnswer, FiveAnswer, SevenAnswer, firstFive, lastTwo, allSeven, Ready, Works, Stands, Restorable, Owns};
 use writing::Place;
@@ -205,10 +206,19 @@ fn first_five(
     Five::Done(p.rows, m, q.rows, n, r)
 }
 
-// The marks of a packed table, settled for restore.
-fn settle(count: usize, p: Place, heads: &[u32], rows: &[u32], text: &[u8], marks: &mut [u32])
+// The marks of a packed table, settled for restore. They index its names already: no step changes a name.
+fn settle(
+    count: usize,
+    p: Place,
+    heads: &[u32],
+    rows: &[u32],
+    text: &[u8],
+    marks: &mut [u32],
+    stack: &mut [u32],
+)
     requires { ⌜ Stands count p (now heads) (now rows) (now text) ⌝ }
-    requires { ⌜ (count ≤ length (now marks)) × (count < 262144) × (length (now rows) < 2 ^ 32) ⌝ }
+    requires { ⌜ Hashed (take count (now heads)) (take (p .text) (now text)) (now marks) ⌝ }
+    requires { ⌜ (count ≤ length (now stack)) × (length (now rows) < 2 ^ 32) ⌝ }
     ensures { λ _. ⌜ Restorable count p (now (heads .entry)) (now (rows .entry)) (now (text .entry)) (now (marks .exit)) ⌝ }
 {
     let words = p.rows * 4;
@@ -216,8 +226,7 @@ fn settle(count: usize, p: Place, heads: &[u32], rows: &[u32], text: &[u8], mark
     let h = &heads[..count];
     let r = &rows[..words];
     let t = &text[..bytes];
-    names::index_names(h, t, marks);
-    restorer::settle(h, r, t, marks);
+    restorer::settle(h, r, t, marks, stack);
 }
 
 // A step on a packed table that looks into that table alone.
@@ -272,7 +281,7 @@ fn restore(
     rows2: &mut [u32],
     text2: &mut [u8],
 ) -> Wrote
-    requires { ⌜ 1024 ≤ length (now marks) ⌝ }
+    requires { ⌜ Hashed (take count (now heads)) (take (p .text) (now text)) (now marks) ⌝ }
     requires { ⌜ Stands count p (now heads) (now rows) (now text) ⌝ }
     requires { ⌜ Works (now heads) (now rows) (now text) (now heads2) (now rows2) (now text2) ⌝ }
     ensures { λ a. ⌜ ((t : Table Bytes) → Front p t (now (heads .entry)) (now (rows .entry)) (now (text .entry)) → count ≡ length t * 4 → PassAnswer a (after 7 t t) (now (heads2 .entry)) (now (rows2 .entry)) (now (text2 .entry)) (now (heads2 .exit)) (now (rows2 .exit)) (now (text2 .exit))) ⌝ }
@@ -285,7 +294,8 @@ fn restore(
         packing::put_out(count, p, heads, rows, text, heads2, rows2, text2);
         return Wrote::Done(p);
     }
-    settle(count, p, heads, rows, text, marks);
+    // what step 7 writes to is free until it begins
+    settle(count, p, heads, rows, text, marks, heads2);
     own(7, marks, count, p, heads, rows, text, heads2, rows2, text2)
 }
 
@@ -301,7 +311,7 @@ fn last_two(
     b_rows: &mut [u32],
     b_text: &mut [u8],
 ) -> Two
-    requires { ⌜ 1024 ≤ length (now marks) ⌝ }
+    requires { ⌜ Hashed (take count (now «a_rules»)) (take (p .text) (now «a_text»)) (now marks) ⌝ }
     requires { ⌜ Stands count p (now «a_rules») (now «a_rows») (now «a_text») ⌝ }
     requires { ⌜ Works (now «a_rules») (now «a_rows») (now «a_text») (now «b_rules») (now «b_rows») (now «b_text») ⌝ }
     ensures { λ a. ⌜ ((t : Table Bytes) → Front p t (now («a_rules» .entry)) (now («a_rows» .entry)) (now («a_text» .entry)) → count ≡ length t * 4 → TwoAnswer a (lastTwo t) (now («a_rules» .exit)) (now («a_rows» .exit)) (now («a_text» .exit))) ⌝ }
@@ -350,7 +360,6 @@ pub fn all_steps(
     b_text: &mut [u8],
 ) -> Seven
     requires { ⌜ Ready (now rules) (now rows) (now text) (now marks) ⌝ }
-    requires { ⌜ 1024 ≤ length (now marks) ⌝ }
     requires { ⌜ Works (now «a_rules») (now «a_rows») (now «a_text») (now «b_rules») (now «b_rows») (now «b_text») ⌝ }
     ensures { λ a. ⌜ ((t : Table Span) → Lent t (now (rules .entry)) (now (rows .entry)) → SevenAnswer a (allSeven (resolveTable (now (text .entry)) t)) (now («a_rules» .exit)) (now («a_rows» .exit)) (now («a_text» .exit))) ⌝ }
 {

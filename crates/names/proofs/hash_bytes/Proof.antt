@@ -4,19 +4,19 @@ use Prim.Native.Nat.{ℕ, _+_, _-_, _*_, _%_, _^_, _≤_, _<_}
 use borrow.Author.Needs.{needs}
 use native.Mathlib.Omega.{arith}
 use Rattle.grammar.specs.Text.{bytesAt}
-use Rattle.names.specs.Names.{hashFrom, hashOf}
+use Rattle.names.specs.Names.{hashFrom}
 use Rattle.names.proofs.Marks.{hash-start, hash-step, hash-end}
 use Rattle.names.proofs.hash_bytes.Statement.{statement}
 use Rattle.names.proofs.hash_bytes.Tie as tie
 
 abbrev Inv-loop : tie.InvT-loop
-Inv-loop text x n h₀ i₀ h i = (i ≤ n) × (h < 2 ^ 32) × (hashFrom h (bytesAt text (x + i, n - i)) ≡ hashOf (bytesAt text (x, n)))
+Inv-loop text x n seed h₀ i₀ h i = (i ≤ n) × (h < 2 ^ 32) × (hashFrom h (bytesAt text (x + i, n - i)) ≡ hashFrom (seed % 2 ^ 32) (bytesAt text (x, n)))
 
 abbrev μ-loop : tie.MeasureT-loop
-μ-loop text x n h₀ i₀ h i = n - i
+μ-loop text x n seed h₀ i₀ h i = n - i
 
 loop-holds : tie.Need-loop-holds Inv-loop μ-loop
-loop-holds c = (omega arith, omega arith, hash-start _ _ _ (c .before .pre))
+loop-holds c = (omega arith, omega arith, let a = c .before .args in hash-start (a .text .now) (a .x) (a .n) (a .seed % 2 ^ 32))
 
 mul-h : tie.Need-mul-h Inv-loop μ-loop
 mul-h c = omega arith
@@ -50,9 +50,6 @@ loop-again c =
           ∙ l .inv .2,
     )
 
-cast-result : tie.Need-cast-result Inv-loop μ-loop
-cast-result c = omega arith
-
 returns : tie.Need-returns Inv-loop μ-loop
 returns c = sym (hash-end _ _ _ _ _ (c .loop-test .left)) ∙ c .before .loop .inv .2
 
@@ -71,5 +68,4 @@ hash-bytes-spec =
     add-i
     loop-less
     loop-again
-    cast-result
     returns)

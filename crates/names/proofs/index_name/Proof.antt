@@ -1,12 +1,8 @@
+use mathlib.Core.Bool.{true≢false}
 use borrow.Author.Needs.{needs}
-use mathlib.Core.Path.{ap, ap₂, _∙_}
-use Prim.Native.Nat.{ℕ, _*_, _/_, _%_, _<_}
-use native.Mathlib.Nat.{mod-lt}
 use native.Mathlib.Omega.{arith}
-use lib.ListN.{length, length-set}
-use Rattle.grammar.specs.Text.{bytesAt}
-use Rattle.names.specs.Names.{hashOf}
-use Rattle.names.proofs.Chains.{indexed-more}
+use Rattle.names.proofs.Index.{ends-inside, ends-named, index-first}
+use borrow.Author.Needs.{needs}
 use Rattle.names.proofs.index_name.Statement.{statement}
 use Rattle.names.proofs.index_name.Tie as tie
 
@@ -34,29 +30,26 @@ shared-slice-read-wide-2 c = search needs
 wide-requires-2 : tie.Need-wide-requires-2
 wide-requires-2 c κs = search needs
 
-hash-bytes-requires : tie.Need-hash-bytes-requires
-hash-bytes-requires c κs = let s = c .before .before .before .before .before .before .before in omega (arith, s .pre .0 (s .args .i) (s .pre .1 .1 .0), c .before .before .wide .ensures, c .wide2 .ensures)
+spot-of-requires : tie.Need-spot-of-requires
+spot-of-requires c κs = let s = c .before .before .before .before .before .before .before .before in (s .pre .0, (record { upTo = s .args .i; indexed = s .pre .1 .1 }, (omega (arith, s .pre .1 .0 .0), omega (arith, s .pre .0 (s .args .i) (s .pre .1 .0 .0), c .before .before .wide .ensures, c .wide2 .ensures))))
 
-mul-marks : tie.Need-mul-marks
-mul-marks c = search needs
-
-slice-write-marks : tie.Need-slice-write-marks
-slice-write-marks c = search needs
-
-wide-requires-3 : tie.Need-wide-requires-3
-wide-requires-3 c κs = search needs
-
-rem-link : tie.Need-rem-link
-rem-link c = search needs
-
-link-requires : tie.Need-link-requires
-link-requires c κs = let s = c .before .before .before .before .before .before .before .before .before .before in let n = length (s .args .rules .now) / 4 in let p : 0 < n = omega (arith, s .pre .1 .1 .0) in (omega (arith, s .pre .1 .1 .0, s .pre .1 .1 .1 .long, length-set (s .args .marks .now) (s .args .i * 4) (c .before .before .hash-bytes .result)), (omega (arith, mod-lt (c .wide3 .result) p, s .pre .1 .1 .1 .long, length-set (s .args .marks .now) (s .args .i * 4) (c .before .before .hash-bytes .result)), omega (arith, s .pre .1 .1 .0, s .pre .1 .0)))
+beside-requires : tie.Need-beside-requires
+beside-requires c κs = let t = c .before .before in let s = t .before .before .before .before .before .before .before .before .before in (s .pre .0, (s .pre .1 .0, (s .pre .1 .1, (ends-named (s .args .rules .now) (s .args .text .now) (s .args .marks .now) (s .args .i) (s .args .i) _ (t .before .before .before .wide .ensures) (t .before .wide2 .ensures) (t .spot-of .ensures .1 (s .args .i) (s .pre .1 .1)), (t .spot-of .ensures .0, c .before .if1 .taken)))))
 
 same-length : tie.Need-same-length
-same-length c = let s = c .before .before .before .before .before .before .before .before .before .before .before .before .before in c .before .before .link .kept .0 ∙ length-set (s .args .marks .now) (s .args .i * 4) (c .before .before .before .before .before .hash-bytes .result)
+same-length c = search needs
 
 returns : tie.Need-returns
-returns c = let s = c .before .before .before .before .before .before .before .before .before .before .before .before .before in indexed-more (s .pre .1 .1 .1) (s .pre .1 .1 .0) (s .pre .1 .0) (c .before .before .before .before .before .hash-bytes .ensures ∙ ap₂ (λ (o n : ℕ). hashOf (bytesAt (s .args .text .now) (o, n))) (c .before .before .before .before .before .before .before .before .wide .ensures) (c .before .before .before .before .before .before .wide2 .ensures)) (ap (λ (x : ℕ). x % (length (s .args .rules .now) / 4)) (c .before .before .before .wide3 .ensures)) (c .before .before .link .ensures)
+returns c = c .before .before .beside .ensures
+
+set-half-requires : tie.Need-set-half-requires
+set-half-requires c κs = let t = c .before .before in let s = t .before .before .before .before .before .before .before .before .before in (ends-inside (omega (arith, s .pre .1 .0 .0)) (s .pre .1 .1) (t .spot-of .ensures .1 (s .args .i) (s .pre .1 .1)), omega (arith, s .pre .1 .0 .0, s .pre .1 .1 .few))
+
+same-length-2 : tie.Need-same-length-2
+same-length-2 c = search needs
+
+returns-2 : tie.Need-returns-2
+returns-2 c = let t = c .before .before .before .before .before in let s = t .before .before .before .before .before .before .before .before .before in record { yes = λ _. index-first (s .pre .1 .1) (s .pre .1 .0 .0) (ends-named (s .args .rules .now) (s .args .text .now) (s .args .marks .now) (s .args .i) (s .args .i) _ (t .before .before .before .wide .ensures) (t .before .wide2 .ensures) (t .spot-of .ensures .1 (s .args .i) (s .pre .1 .1))) (omega (arith, t .spot-of .ensures .0, c .before .before .before .before .if1 .left, t .spot-of .ensures .1 (s .args .i) (s .pre .1 .1) .last)) (c .before .before .set-half .ensures); no = λ e. absurd (true≢false e) }
 
 pub index-name-spec : {M : Type 1} → statement M
 index-name-spec =
@@ -70,11 +63,10 @@ index-name-spec =
     mul-wide-2
     shared-slice-read-wide-2
     wide-requires-2
-    hash-bytes-requires
-    mul-marks
-    slice-write-marks
-    wide-requires-3
-    rem-link
-    link-requires
+    spot-of-requires
+    beside-requires
     same-length
-    returns)
+    returns
+    set-half-requires
+    same-length-2
+    returns-2)

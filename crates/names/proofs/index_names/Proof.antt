@@ -1,10 +1,12 @@
--- The invariant: the rules passed have their hashes and are in chains. Assumes nothing.
-use mathlib.Core.Path.{_≡_, refl, _∙_}
-use Prim.Native.Nat.{_+_, _-_, _/_, _≤_}
+use mathlib.Core.Path.{_≡_, refl, sym, ap, ap₂, subst, _∙_}
+use Prim.Native.Nat.{ℕ, suc, _+_, _-_, _*_, _/_, _≤_, _<_}
+use borrow.Author.Needs.{needs}
 use native.Mathlib.Omega.{arith}
-use lib.ListN.{length}
+use lib.ListN.{length, getD}
 use Rattle.names.specs.Names.{Indexed}
-use Rattle.names.proofs.Chains.{indexed-none, indexed-all}
+use borrow.Author.Tests.{not-true, not-false}
+use mathlib.Core.Bool.{true≢false}
+use Rattle.names.proofs.Index.{indexed-all}
 use Rattle.names.proofs.index_names.Statement.{statement}
 use Rattle.names.proofs.index_names.Tie as tie
 
@@ -12,31 +14,37 @@ abbrev Inv-loop : tie.InvT-loop
 Inv-loop rules text marks₀ count i₀ marks i = (i ≤ length rules / 4) × (length marks ≡ length marks₀) × Indexed i rules text marks
 
 abbrev μ-loop : tie.MeasureT-loop
-μ-loop rules text marks₀ count i₀ marks i = i
+μ-loop rules text marks₀ count i₀ marks i = length rules / 4 - i
 
-clear-heads-requires : tie.Need-clear-heads-requires Inv-loop μ-loop
-clear-heads-requires c κs = let s = c .before .before .before .before in (s .pre .1 .0, s .pre .1 .1)
+clear-requires : tie.Need-clear-requires Inv-loop μ-loop
+clear-requires c κs = let s = c .before .before .before .before in (s .pre .1 .0, s .pre .1 .1 .0)
 
 loop-holds : tie.Need-loop-holds Inv-loop μ-loop
-loop-holds c = let s = c .before .before .before .before .before .before .before in (omega arith, refl, indexed-none (s .args .rules .now) (s .args .text .now) (s .args .marks .now) (s .pre .1 .1) (s .pre .1 .0) (c .before .before .clear-heads .ensures))
-
-sub-i : tie.Need-sub-i Inv-loop μ-loop
-sub-i c = omega (arith, c .loop-test .taken)
+loop-holds c = (omega arith, refl, c .before .before .clear .ensures)
 
 index-name-requires : tie.Need-index-name-requires Inv-loop μ-loop
-index-name-requires c κs = let s = c .before .before .before .before .before .before .before .before .before .before in let l = c .before .before .loop in let e : l .i - 1 + 1 ≡ l .i = omega (arith, c .before .loop-test .taken) in (s .pre .0, (s .pre .1 .1, (omega (arith, c .before .loop-test .taken, l .inv .0), rw e (l .inv .2))))
-
-loop-less : tie.Need-loop-less Inv-loop μ-loop
-loop-less c = omega (arith, c .before .before .before .before .loop-test .taken)
-
-loop-again : tie.Need-loop-again Inv-loop μ-loop
-loop-again c = (omega (arith, c .before .before .before .before .loop-test .taken, c .before .before .before .before .before .loop .inv .0), c .before .before .index-name .kept .1 .1 .0 ∙ c .before .before .before .before .before .loop .inv .1, c .before .before .index-name .ensures)
+index-name-requires c κs = let s = c .before .before .before .before .before .before .before .before .before .before in let l = c .before .before .loop in (s .pre .0, ((omega (arith, c .before .loop-test .taken), s .pre .1 .1 .1), l .inv .2))
 
 same-length : tie.Need-same-length Inv-loop μ-loop
-same-length c = c .before .loop .inv .1 ∙ c .before .before .before .before .clear-heads .kept .1 .0
+same-length c = let l = c .before .before .before .before .before .before in c .before .before .before .index-name .kept .1 .1 .0 ∙ l .loop .inv .1 ∙ l .before .before .before .clear .kept .1 .1 .0
 
 returns : tie.Need-returns Inv-loop μ-loop
-returns c = let s = c .before .before .before .before .before .before .before .before .before in let l = c .before .loop in let e : l .i ≡ 0 = omega (arith, c .loop-test .left) in indexed-all (s .pre .0) (rw e at (l .inv .2))
+returns c = record { yes = λ e. search needs; no = λ _. c .before .before .before .index-name .ensures .no (not-true _ (c .if1 .taken)) }
+
+add-i : tie.Need-add-i Inv-loop μ-loop
+add-i c = omega arith
+
+loop-less : tie.Need-loop-less Inv-loop μ-loop
+loop-less c = omega (arith, c .before .before .before .before .before .loop-test .taken)
+
+loop-again : tie.Need-loop-again Inv-loop μ-loop
+loop-again c = let n = c .before .before .before in let l = c .before .before .before .before .before .before .loop in (omega (arith, c .before .before .before .before .before .loop-test .taken), n .index-name .kept .1 .1 .0 ∙ l .inv .1, n .index-name .ensures .yes (not-false _ (c .if1 .left)))
+
+same-length-2 : tie.Need-same-length-2 Inv-loop μ-loop
+same-length-2 c = c .before .loop .inv .1 ∙ c .before .before .before .before .clear .kept .1 .1 .0
+
+returns-2 : tie.Need-returns-2 Inv-loop μ-loop
+returns-2 c = let s = c .before .before .before .before .before .before .before .before .before in let l = c .before .loop in let e : l .i ≡ length (s .args .rules .now) / 4 = omega (arith, c .loop-test .left, l .inv .0) in record { yes = λ _. indexed-all (s .pre .0) (rw e at (l .inv .2)); no = λ e. absurd (true≢false e) }
 
 pub index-names-spec : {M : Type 1} → statement M
 index-names-spec =
@@ -44,11 +52,13 @@ index-names-spec =
     (tie.spec
     Inv-loop
     μ-loop
-    clear-heads-requires
+    clear-requires
     loop-holds
-    sub-i
     index-name-requires
+    same-length
+    returns
+    add-i
     loop-less
     loop-again
-    same-length
-    returns)
+    same-length-2
+    returns-2)

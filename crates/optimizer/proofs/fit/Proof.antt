@@ -84,7 +84,7 @@ run-requires c κs =
     let s = c .before .before .before .before .before .before .before .before .before .before .before .before .before .before .before .before .before .before .before .before .before .before .before .before .before in
     let r = s .pre .0 in
     let f = size-is r (c .before .before .before .before .before .before .before .before .before .before .before .text-size .ensures) in
-    (fit-ready r (c .before .before .before .before .before .before .before .before .before .before .if1 .left) f, (s .pre .1 .marked, (s .pre .1 .out, cut-works (s .pre .1))))
+    (fit-ready r (c .before .before .before .before .before .before .before .before .before .before .if1 .left) f, (s .pre .1 .out, cut-works (s .pre .1)))
 
 -- src/lib.rt:456:1
 same-length : tie.Need-same-length

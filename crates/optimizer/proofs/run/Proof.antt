@@ -17,7 +17,7 @@ use Rattle.packing.proofs.put_out.Reads as put-out-reads
 all-steps-requires : tie.Need-all-steps-requires
 all-steps-requires c κs =
     let s = c .before .before .before .before .before .before .before .before .before .before .before .before .before .before .before .before .before .before .before .before in
-    (s .pre .0, (s .pre .1 .0, s .pre .1 .1 .1))
+    (s .pre .0, s .pre .1 .1)
 
 -- src/lib.rt:427:21
 enum-known-n1 : tie.Need-enum-known-n1
@@ -73,7 +73,7 @@ put-out-requires c κs =
     let r = s .pre .0 in
     let t = r .given .table in
     let l = ready-lent r in
-    ran-covers (s .pre .1 .1 .0) (sized-same (c .before .before .before .before .before .before .before .before .before .before .before .before .before .before .before .before .before .before .before .before .before .before .before .all-steps .kept .1 .1 .1 .1 .0) (c .before .before .before .before .before .before .before .before .before .before .before .before .before .before .before .before .before .before .before .before .before .before .before .all-steps .kept .1 .1 .1 .1 .1 .0) (c .before .before .before .before .before .before .before .before .before .before .before .before .before .before .before .before .before .before .before .before .before .before .before .all-steps .kept .1 .1 .1 .1 .1 .1 .0) (s .pre .1 .1 .1 .one)) (rules-after r t l) (seven-done _ _ _ _ (c .before .before .before .before .before .before .before .n1 .given .1) (c .before .before .before .before .before .before .before .before .before .before .before .before .before .before .before .before .before .before .before .before .before .before .before .all-steps .ensures t l))
+    ran-covers (s .pre .1 .0) (sized-same (c .before .before .before .before .before .before .before .before .before .before .before .before .before .before .before .before .before .before .before .before .before .before .before .all-steps .kept .1 .1 .1 .1 .0) (c .before .before .before .before .before .before .before .before .before .before .before .before .before .before .before .before .before .before .before .before .before .before .before .all-steps .kept .1 .1 .1 .1 .1 .0) (c .before .before .before .before .before .before .before .before .before .before .before .before .before .before .before .before .before .before .before .before .before .before .before .all-steps .kept .1 .1 .1 .1 .1 .1 .0) (s .pre .1 .1 .one)) (rules-after r t l) (seven-done _ _ _ _ (c .before .before .before .before .before .before .before .n1 .given .1) (c .before .before .before .before .before .before .before .before .before .before .before .before .before .before .before .before .before .before .before .before .before .before .before .all-steps .ensures t l))
 
 -- src/lib.rt:452:5
 finished-requires : tie.Need-finished-requires
@@ -82,7 +82,7 @@ finished-requires c κs =
     let r = s .pre .0 in
     let t = r .given .table in
     let l = ready-lent r in
-    ran-small _ (resolveTable (s .args .text .now) t) (r .short) (rows-few r t l) (sized-same (c .before .before .before .before .before .before .before .before .before .before .before .before .before .before .before .before .before .before .before .before .before .before .before .before .before .before .before .before .before .before .all-steps .kept .1 .1 .1 .1 .0) (c .before .before .before .before .before .before .before .before .before .before .before .before .before .before .before .before .before .before .before .before .before .before .before .before .before .before .before .before .before .before .all-steps .kept .1 .1 .1 .1 .1 .0) (c .before .before .before .before .before .before .before .before .before .before .before .before .before .before .before .before .before .before .before .before .before .before .before .before .before .before .before .before .before .before .all-steps .kept .1 .1 .1 .1 .1 .1 .0) (s .pre .1 .1 .1 .one)) (seven-done _ _ _ _ (c .before .before .before .before .before .before .before .before .before .before .before .before .before .before .n1 .given .1) (c .before .before .before .before .before .before .before .before .before .before .before .before .before .before .before .before .before .before .before .before .before .before .before .before .before .before .before .before .before .before .all-steps .ensures t l))
+    ran-small _ (resolveTable (s .args .text .now) t) (r .short) (rows-few r t l) (sized-same (c .before .before .before .before .before .before .before .before .before .before .before .before .before .before .before .before .before .before .before .before .before .before .before .before .before .before .before .before .before .before .all-steps .kept .1 .1 .1 .1 .0) (c .before .before .before .before .before .before .before .before .before .before .before .before .before .before .before .before .before .before .before .before .before .before .before .before .before .before .before .before .before .before .all-steps .kept .1 .1 .1 .1 .1 .0) (c .before .before .before .before .before .before .before .before .before .before .before .before .before .before .before .before .before .before .before .before .before .before .before .before .before .before .before .before .before .before .all-steps .kept .1 .1 .1 .1 .1 .1 .0) (s .pre .1 .1 .one)) (seven-done _ _ _ _ (c .before .before .before .before .before .before .before .before .before .before .before .before .before .before .n1 .given .1) (c .before .before .before .before .before .before .before .before .before .before .before .before .before .before .before .before .before .before .before .before .before .before .before .before .before .before .before .before .before .before .all-steps .ensures t l))
 
 -- src/lib.rt:406:1
 same-length-8 : tie.Need-same-length-8

@@ -34,7 +34,7 @@ check-names-requires c κs =
     let a = c .before .before .before .before .before .before .before .before .before .before .before .before .before .before .args in
     let k = counts (a .rules .now) (a .rows .now) (a .text .now) b in
     let t = tells-yes (not-false (c .before .before .before .before .before .before .before .trees .result) (c .before .before .before .before .before .before .if2 .left)) (c .before .before .before .before .before .before .before .trees .ensures) in
-    (inside-names (a .rules .now) (a .rows .now) (a .text .now) b t _ (c .before .before .before .before .bad-text .ensures) (c .before .if3 .left), (omega (arith, k .rules-most, c .before .before .before .before .before .before .before .before .before .before .before .before .before .before .pre, c .before .before .before .before .bad-text .kept), omega (arith, k .rules-most), few-rows (a .rules .now) (a .rows .now) (a .text .now) b t))
+    (inside-names (a .rules .now) (a .rows .now) (a .text .now) b t _ (c .before .before .before .before .bad-text .ensures) (c .before .if3 .left), (omega (arith, k .rules-most, c .before .before .before .before .before .before .before .before .before .before .before .before .before .before .pre, c .before .before .before .before .bad-text .kept), omega (arith, k .rules-most), k .text-most, few-rows (a .rules .now) (a .rows .now) (a .text .now) b t))
 
 same-length-2 : tie.Need-same-length-2
 same-length-2 c = search needs

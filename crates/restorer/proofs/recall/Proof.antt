@@ -1,5 +1,5 @@
 -- By the tests that led there. Assumes nothing.
-use borrow.Author.Tests.{eq-eqb, ne-eqb}
+use borrow.Author.Tests.{eq-eqb, ne-eqb, lt-leb, le-leb}
 use Rattle.restorer.specs.Walks.{recalled}
 use borrow.Author.Needs.{needs}
 use Rattle.restorer.proofs.recall.Statement.{statement}
@@ -27,9 +27,25 @@ returns-2 c = simp (ne-eqb _ _ (c .before .if1 .left), eq-eqb _ _ (c .if2 .taken
 
 returns-3 : tie.Need-returns-3
 unfolding recalled
-returns-3 c = simp (ne-eqb _ _ (c .before .if1 .left), ne-eqb _ _ (c .if2 .left))
+returns-3 c = simp (ne-eqb _ _ (c .before .before .if1 .left), ne-eqb _ _ (c .before .if2 .left), lt-leb 4 _ (c .if3 .taken))
+
+wide-requires : tie.Need-wide-requires
+wide-requires c κs = search needs
+
+returns-4 : tie.Need-returns-4
+unfolding recalled
+returns-4 c = simp (ne-eqb _ _ (c .before .before .before .if1 .left), ne-eqb _ _ (c .before .before .if2 .left), le-leb 4 _ (c .before .if3 .left), c .wide .ensures)
 
 pub recall-spec : {M : Type 1} → statement M
 recall-spec =
     tie.close
-    (tie.spec mul-state add-state mul-state-2 shared-slice-read-state returns returns-2 returns-3)
+    (tie.spec
+    mul-state
+    add-state
+    mul-state-2
+    shared-slice-read-state
+    returns
+    returns-2
+    returns-3
+    wide-requires
+    returns-4)

@@ -1,10 +1,8 @@
--- A search that ends in no settles all it saw, and one that ends in yes the rules then open. Assumes nothing.
-use mathlib.Core.Path.{refl}
-use Prim.Native.Nat.{_/_}
+-- A search that reaches no change has settled all it saw; one that does has left on its stack the rules that lead there. Assumes nothing.
 use native.Mathlib.Omega.{arith}
-use lib.ListN.{length}
-use Rattle.restorer.proofs.Marks.{ran-none, below-resolved}
-use Rattle.restorer.proofs.Ends.{turned-steady, steady-more, ends-settled, rule-yes, rule-no}
+use Rattle.restorer.proofs.Settles.{ends-settled}
+use Rattle.restorer.proofs.Looks.{rule-empty, rule-no, rule-within, rule-closed, rule-yes}
+use Rattle.restorer.proofs.Marks.{steady-none, steady-more, below-resolved}
 use borrow.Author.Needs.{needs}
 use Rattle.restorer.proofs.settle_rule.Statement.{statement}
 use Rattle.restorer.proofs.settle_rule.Tie as tie
@@ -22,36 +20,47 @@ slice-read-if1 : tie.Need-slice-read-if1
 slice-read-if1 c = search needs
 
 returns : tie.Need-returns
-returns c = (ran-none _ .steady, λ u l h. ends-settled h (below-resolved l _ _ (c .before .before .before .before .before .before .pre .1)) (c .if1 .taken))
+returns c = let s = c .before .before .before .before .before .before .before in (steady-none _, (s .pre .0 .stacked, λ u l h. ends-settled h (below-resolved l _ _ (s .pre .1)) (c .if1 .taken)))
 
 look-requires : tie.Need-look-requires
 look-requires c κs = search needs
 
-turn-requires : tie.Need-turn-requires
-turn-requires c κs = search needs
+enum-known-top : tie.Need-enum-known-top
+enum-known-top c = search needs
 
-turn-requires-2 : tie.Need-turn-requires-2
-turn-requires-2 c κs = search needs
+enum-told : tie.Need-enum-told
+enum-told c = search needs
 
 same-length : tie.Need-same-length
 same-length c = search needs
 
-returns-2 : tie.Need-returns-2
-returns-2 c = let s = c .before .before .before .before .before .before .before .before .before .before .before .before .before .before .before in
-    let a = c .before .before .before .before .before .before .before .look in (
-      steady-more (a .ensures .0 .steady) (turned-steady 0 (length (s .args .rules .now) / 4) _ (c .before .before .turn .ensures)),
-      λ u l h. rule-yes _ u l (s .pre .1) h (omega (arith, s .pre .0 .marked .hashed .long, a .kept .1 .1 .1 .0)) refl (c .before .before .before .before .if2 .taken) (a .ensures .1 u l (h .right)) (c .before .before .turn .ensures),
-    )
-
 same-length-2 : tie.Need-same-length-2
 same-length-2 c = search needs
 
+returns-2 : tie.Need-returns-2
+returns-2 c = let at-look = c .before .before .before .before .before .before in
+    let s = at-look .before .before .before .before .before .before .before .before .before .before in
+    let a = at-look .look in (a .ensures .0 .steady, (rule-empty (s .pre .0) (s .pre .1) (a .ensures .0) (a .ensures .1 .1) (c .enum-told .given .1) (a .ensures .1 .0), rule-no (s .pre .0) (s .pre .1) (a .ensures .0) (a .ensures .1 .1) (c .enum-told .given .1)))
+
+close-requires : tie.Need-close-requires
+close-requires c κs = let at-top = c .before .before .before in
+    let at-look = at-top .before .before .before .before .before .before in
+    let s = at-look .before .before .before .before .before .before .before .before .before .before in
+    let a = at-look .look in (rule-within (s .pre .0) (s .pre .1) (a .ensures .0) (a .ensures .1 .1) (at-top .top .given .1) (a .kept .1 .1 .1 .0) (a .kept .1 .1 .1 .1 .0), (omega arith, omega arith))
+
+same-length-3 : tie.Need-same-length-3
+same-length-3 c = search needs
+
+same-length-4 : tie.Need-same-length-4
+same-length-4 c = search needs
+
 returns-3 : tie.Need-returns-3
-returns-3 c = let s = c .before .before .before .before .before .before .before .before .before .before .before .before .before .before .before in
-    let a = c .before .before .before .before .before .before .before .look in (
-      steady-more (a .ensures .0 .steady) (turned-steady 2 (length (s .args .rules .now) / 4) _ (c .before .before .turn2 .ensures)),
-      λ u l h. rule-no _ u l (s .pre .1) h (omega (arith, s .pre .0 .marked .hashed .long, a .kept .1 .1 .1 .0)) refl (c .before .before .before .before .if2 .left) (a .ensures .1 u l (h .right)) (c .before .before .turn2 .ensures),
-    )
+returns-3 c = let at-close = c .before .before in
+    let at-top = at-close .before .before .before .before in
+    let at-look = at-top .before .before .before .before .before .before in
+    let s = at-look .before .before .before .before .before .before .before .before .before .before in
+    let a = at-look .look in
+    let d = at-close .close .ensures in (steady-more (a .ensures .0 .steady) (d .0), (rule-closed (s .pre .0) (s .pre .1) (a .ensures .0) (a .ensures .1 .1) (at-top .top .given .1) (d .1), rule-yes (s .pre .0) (s .pre .1) (a .ensures .0) (a .ensures .1 .1) (at-top .top .given .1) (d .1)))
 
 pub settle-rule-spec : {M : Type 1} → statement M
 settle-rule-spec =
@@ -63,9 +72,12 @@ settle-rule-spec =
     slice-read-if1
     returns
     look-requires
-    turn-requires
-    turn-requires-2
+    enum-known-top
+    enum-told
     same-length
-    returns-2
     same-length-2
+    returns-2
+    close-requires
+    same-length-3
+    same-length-4
     returns-3)

@@ -19,6 +19,7 @@ use Rattle.skipper.specs.declared.Node.the-variants.{Pair}
 use Rattle.skipper.proofs.Skipping.{skipped, loop-skips, settles-list, two-view, two-skipped, settles-first, settles-second}
 use Rattle.skipper.proofs.Forks.{Walked, Forking, forking-none, forking-less, forking-more, forking-all, forking-child, forking-room, forking-full, forking-done}
 use Rattle.skipper.proofs.Falls.{fits-wrap, run-full, run-done, run-rising, fell-plain, fell-loop, fell-fork, fell-at, fell-size}
+use Rattle.skipper.proofs.Words.{led-by}
 use borrow.Author.Needs.{needs}
 use Prim.Native.Nat.{ℕ, _<_}
 use borrow.Fn.Kinds.{In}
@@ -263,7 +264,7 @@ skip-tree-skip-loop-requires t c κs = let s = c .before .before .before .before
     let d = s .pre .1 .1 .1 .0 in
     let k = fell-loop _ _ _ _ _ _ (c .before .before .before .before .before .fall .ensures (d .table) (d .tree) (d .lent .heads) (d .at) (d .settles)) (c .before .before .before .base .given .1) in
     let h = settles-list _ (k .fell .settles) (k .list .list) in
-    (s .pre .1 .0, (s .pre .1 .1 .0, (record { table = d .table; lent = d .lent; tree = k .list .tree; at = k .list .at; list = h .list; reads = h .reads }, ((omega (arith, k .fell .count), root (d .at) .inside), s .pre .1 .1 .1 .1))))
+    (led-by (s .pre .1 .0) (d .lent) (d .settles .targets), (s .pre .1 .1 .0, (record { table = d .table; lent = d .lent; tree = k .list .tree; at = k .list .at; list = h .list; reads = h .reads }, ((omega (arith, k .fell .count), root (d .at) .inside), s .pre .1 .1 .1 .1))))
 
 -- src/lib.rt:906:26
 skip-tree-enum-known-base-2 : (t : ℕ) → skip-tree-lts.Need-enum-known-base-2 (calls-skip-tree t) (skip-tree-at t) skip-tree.Post

@@ -1,14 +1,13 @@
 -- The strings of a list. The measure: the rules that may still be gone through, then the rows of the tree. The invariant of the loop: what is still to come gives the rest of the strings. Assumes nothing.
-use mathlib.Core.Path.{_≡_, refl, sym, _∙_}
-use Prim.Native.Nat.{_+_, _-_, _*_, _/_, _^_, _≤_}
+use mathlib.Core.Path.{refl, sym, _∙_}
+use Prim.Native.Nat.{ℕ, _+_, _*_, _^_, _<_}
 use native.Mathlib.Omega.{arith}
-use lib.ListN.{length}
 use Rattle.rows.specs.Rows.{sizeAt}
 use Rattle.rows.proofs.Laws.{root}
-use Rattle.skipper.proofs.Spelling.{spell-str, spell-ident, spell-name, name-fuel, name-known, name-spells, str-wrote}
-use Rattle.skipper.proofs.Onward.{here, body-at, body-none, fork, fork-small, fork-less, Going, go-first, ahead, go-spelled, go-left, go-full, is-name, name-has, body-less, go-body, go-none, last-str}
+use Rattle.skipper.proofs.Spelling.{spell-str, spell-ident, spell-name, name-fuel, str-wrote}
+use Rattle.skipper.proofs.Ways.{spells-known}
+use Rattle.skipper.proofs.Onward.{here, fork, fork-small, fork-less, Going, go-first, ahead, go-spelled, go-left, go-full, is-name, name-is, name-has, body-less, go-body, last-str}
 use borrow.Author.Needs.{needs}
-use Prim.Native.Nat.{ℕ, _<_}
 use borrow.Fn.Kinds.{In}
 use borrow.Fn.PlainCycle.{Measures, is, falls, and}
 use Rattle.skipper.proofs.write_leaf.Reads as write-leaf
@@ -74,27 +73,15 @@ write-leaf-returns t c = λ u r ss l a sp. let s = c .before .before .before .be
 
 -- src/lib.rt:567:27
 write-leaf-body-of-requires : (t : ℕ) → write-leaf-lts.Need-body-of-requires (calls-write-leaf t) (write-leaf-at t) write-leaf.Post
-write-leaf-body-of-requires t c κs = let s = c .before .before .before .before .before .before .before .before .before .before in let d = s .pre .1 .1 .1 .0 in (record { rows = _; given = s .pre .1 .0 }, (s .pre .1 .1 .0, (root (d .at) .inside, spell-ident (s .args .text .now) (here (d .at)) (d .at) (λ e. c .if1 .left (c .before .kind-at .ensures ∙ e)) (d .spells))))
-
--- src/lib.rt:567:19
-write-leaf-enum-known-body : (t : ℕ) → write-leaf-lts.Need-enum-known-body (calls-write-leaf t) (write-leaf-at t) write-leaf.Post
-write-leaf-enum-known-body t c = search needs
-
--- src/lib.rt:568:9
-write-leaf-enum-told : (t : ℕ) → write-leaf-lts.Need-enum-told (calls-write-leaf t) (write-leaf-at t) write-leaf.Post
-write-leaf-enum-told t c = search needs
-
--- src/lib.rt:568:9
-write-leaf-returns-2 : (t : ℕ) → write-leaf-lts.Need-returns-2 (calls-write-leaf t) (write-leaf-at t) write-leaf.Post
-write-leaf-returns-2 t c = λ u r ss l a sp f. let s = c .before .before .before .before .before .before .before .before .before .before .before .before .before in let x = spell-name (s .args .text .now) (here a) a (spell-ident (s .args .text .now) (here a) a (λ e. c .before .before .before .if1 .left (c .before .before .before .before .kind-at .ensures ∙ e)) sp) sp in name-known _ _ x (body-none _ _ _ u (c .enum-told .given .1) (c .before .before .body-of .ensures _ u l))
+write-leaf-body-of-requires t c κs = let s = c .before .before .before .before .before .before .before .before .before .before in let d = s .pre .1 .1 .1 .0 in (record { rows = _; led = s .pre .1 .0 }, (s .pre .1 .1 .0, (root (d .at) .inside, (spell-ident (s .args .text .now) (here (d .at)) (d .at) (λ e. c .if1 .left (c .before .kind-at .ensures ∙ e)) (d .spells), spells-known _ _ _ (d .lent) (spell-name (s .args .text .now) (here (d .at)) (d .at) (spell-ident (s .args .text .now) (here (d .at)) (d .at) (λ e. c .if1 .left (c .before .kind-at .ensures ∙ e)) (d .spells)) (d .spells))))))
 
 -- src/lib.rt:576:9
 write-leaf-sub-write-rule : (t : ℕ) → write-leaf-lts.Need-sub-write-rule (calls-write-leaf t) (write-leaf-at t) write-leaf.Post
-write-leaf-sub-write-rule t c = let s = c .before .before .before .before .before .before .before .before .before .before .before .before .before .before in let d = s .pre .1 .1 .1 .0 in name-fuel _ _ (spell-name (s .args .text .now) (here (d .at)) (d .at) (spell-ident (s .args .text .now) (here (d .at)) (d .at) (λ e. c .before .before .before .before .if1 .left (c .before .before .before .before .before .kind-at .ensures ∙ e)) (d .spells)) (d .spells))
+write-leaf-sub-write-rule t c = let s = c .before .before .before .before .before .before .before .before .before .before .before in let d = s .pre .1 .1 .1 .0 in name-fuel _ _ (spell-name (s .args .text .now) (here (d .at)) (d .at) (spell-ident (s .args .text .now) (here (d .at)) (d .at) (λ e. c .before .if1 .left (c .before .before .kind-at .ensures ∙ e)) (d .spells)) (d .spells))
 
 -- src/lib.rt:570:5
 write-leaf-write-rule-requires : (t : ℕ) → write-leaf-lts.Need-write-rule-requires (calls-write-leaf t) (write-leaf-at t) write-leaf.Post
-write-leaf-write-rule-requires t c κs = let s = c .before .before .before .before .before .before .before .before .before .before .before .before .before .before .before .before in let d = s .pre .1 .1 .1 .0 in let x = spell-name (s .args .text .now) (here (d .at)) (d .at) (spell-ident (s .args .text .now) (here (d .at)) (d .at) (λ e. c .before .before .before .before .before .before .if1 .left (c .before .before .before .before .before .before .before .kind-at .ensures ∙ e)) (d .spells)) (d .spells) in let b = body-at (c .before .before .before .body .given .1) (c .before .before .before .before .before .body-of .ensures _ (d .table) (d .lent)) in let h = root (b .at) in (omega (arith, s .pre .0, name-fuel _ _ x, h .rows, h .most, h .inside, s .good .1 .0 .0), (s .pre .1 .0, (record { table = d .table; lent = d .lent; tree = b .tree; at = b .at; list = d .list; spells = name-spells _ _ _ (b .is) x }, s .pre .1 .1 .1 .1)))
+write-leaf-write-rule-requires t c κs = let s = c .before .before .before .before .before .before .before .before .before .before .before .before .before in let d = s .pre .1 .1 .1 .0 in let x = spell-name (s .args .text .now) (here (d .at)) (d .at) (spell-ident (s .args .text .now) (here (d .at)) (d .at) (λ e. c .before .before .before .if1 .left (c .before .before .before .before .kind-at .ensures ∙ e)) (d .spells)) (d .spells) in let b = c .before .before .body-of .ensures _ (d .table) (d .lent) (s .pre .1 .0 .targets (d .table) (d .lent)) in let h = root (b .at) in (omega (arith, s .pre .0, name-fuel _ _ x, h .rows, h .most, h .inside, s .good .1 .0 .0), (s .pre .1 .0, (record { table = d .table; lent = d .lent; tree = b .tree; at = b .at; list = d .list; spells = b .gives _ (d .list) x }, s .pre .1 .1 .1 .1)))
 
 -- src/lib.rt:545:1
 write-leaf-same-length-3 : (t : ℕ) → write-leaf-lts.Need-same-length-3 (calls-write-leaf t) (write-leaf-at t) write-leaf.Post
@@ -105,8 +92,8 @@ write-leaf-same-length-4 : (t : ℕ) → write-leaf-lts.Need-same-length-4 (call
 write-leaf-same-length-4 t c = search needs
 
 -- src/lib.rt:545:1
-write-leaf-returns-3 : (t : ℕ) → write-leaf-lts.Need-returns-3 (calls-write-leaf t) (write-leaf-at t) write-leaf.Post
-write-leaf-returns-3 t c = λ u r ss l a sp. let s = c .before .before .before .before .before .before .before .before .before .before .before .before .before .before .before .before .before .before .before .before .before in let x = spell-name (s .args .text .now) (here a) a (spell-ident (s .args .text .now) (here a) a (λ e. c .before .before .before .before .before .before .before .before .before .before .before .if1 .left (c .before .before .before .before .before .before .before .before .before .before .before .before .kind-at .ensures ∙ e)) sp) sp in let b = body-at (c .before .before .before .before .before .before .before .before .body .given .1) (c .before .before .before .before .before .before .before .before .before .before .body-of .ensures _ u l) in c .before .before .before .before .write-rule .ensures u (b .tree) ss l (b .at) (name-spells _ _ _ (b .is) x)
+write-leaf-returns-2 : (t : ℕ) → write-leaf-lts.Need-returns-2 (calls-write-leaf t) (write-leaf-at t) write-leaf.Post
+write-leaf-returns-2 t c = λ u r ss l a sp. let s = c .before .before .before .before .before .before .before .before .before .before .before .before .before .before .before .before .before .before in let x = spell-name (s .args .text .now) (here a) a (spell-ident (s .args .text .now) (here a) a (λ e. c .before .before .before .before .before .before .before .before .if1 .left (c .before .before .before .before .before .before .before .before .before .kind-at .ensures ∙ e)) sp) sp in let b = c .before .before .before .before .before .before .before .body-of .ensures _ u l (s .pre .1 .0 .targets u l) in c .before .before .before .before .write-rule .ensures u (b .tree) ss l (b .at) (b .gives _ ss x)
 
 abbrev write-rule-Inv-loop : write-rule-lts.InvT-loop
 write-rule-Inv-loop rules rows text marks root fuel out₀ lits₀ at₀ fuel-left₀ q₀ out lits at fuel-left q = Going rules rows text rows text root fuel q₀ out₀ lits₀ at fuel-left q out lits
@@ -132,7 +119,7 @@ write-rule-left-of-requires t c κs = let inv = c .before .before .before .befor
 
 -- src/lib.rt:606:34
 write-rule-write-leaf-requires : (t : ℕ) → write-rule-lts.Need-write-leaf-requires (calls-write-rule t) (write-rule-at t) write-rule.Post write-rule-Inv-loop write-rule-μ-loop
-write-rule-write-leaf-requires t c κs = let inv = c .before .before .before .before .before .before .before .loop .inv in let s = c .before .before .before .before .before .before .before .before .before .before .before .before .before .before in let z = (sym (c .before .before .before .before .kind-at2 .ensures) ∙ c .before .before .before .if2 .taken) in let e = c .before .before .left-of .ensures in (omega (arith, s .pre .0, inv .less, fork-small (ahead inv .at) z _ e), (s .pre .1 .0, (s .pre .1 .0 .inside, (go-spelled inv z e, inv .room))))
+write-rule-write-leaf-requires t c κs = let inv = c .before .before .before .before .before .before .before .loop .inv in let s = c .before .before .before .before .before .before .before .before .before .before .before .before .before .before in let z = (sym (c .before .before .before .before .kind-at2 .ensures) ∙ c .before .before .before .if2 .taken) in let e = c .before .before .left-of .ensures in (omega (arith, s .pre .0, inv .less, fork-small (ahead inv .at) z _ e), (s .pre .1 .0, (s .pre .1 .0 .given .inside, (go-spelled inv z e, inv .room))))
 
 -- src/lib.rt:606:29
 write-rule-enum-known-s : (t : ℕ) → write-rule-lts.Need-enum-known-s (calls-write-rule t) (write-rule-at t) write-rule.Post write-rule-Inv-loop write-rule-μ-loop
@@ -168,55 +155,35 @@ write-rule-loop-again t c = let inv = c .before .before .before .before .before 
 
 -- src/lib.rt:624:35
 write-rule-body-of-requires : (t : ℕ) → write-rule-lts.Need-body-of-requires (calls-write-rule t) (write-rule-at t) write-rule.Post write-rule-Inv-loop write-rule-μ-loop
-write-rule-body-of-requires t c κs = let inv = c .before .before .before .before .loop .inv in let s = c .before .before .before .before .before .before .before .before .before .before .before in (record { rows = _; given = s .pre .1 .0 }, (s .pre .1 .0 .inside, (root (ahead inv .at) .inside, is-name (ahead inv) (λ e. c .if2 .left (c .before .kind-at2 .ensures ∙ e)) (λ e. c .before .before .if1 .taken (c .before .before .before .kind-at .ensures ∙ e)))))
-
--- src/lib.rt:624:27
-write-rule-enum-known-body : (t : ℕ) → write-rule-lts.Need-enum-known-body (calls-write-rule t) (write-rule-at t) write-rule.Post write-rule-Inv-loop write-rule-μ-loop
-write-rule-enum-known-body t c = search needs
-
--- src/lib.rt:625:17
-write-rule-enum-told-2 : (t : ℕ) → write-rule-lts.Need-enum-told-2 (calls-write-rule t) (write-rule-at t) write-rule.Post write-rule-Inv-loop write-rule-μ-loop
-write-rule-enum-told-2 t c = search needs
-
--- src/lib.rt:625:17
-write-rule-same-length-3 : (t : ℕ) → write-rule-lts.Need-same-length-3 (calls-write-rule t) (write-rule-at t) write-rule.Post write-rule-Inv-loop write-rule-μ-loop
-write-rule-same-length-3 t c = c .before .before .before .before .before .before .before .loop .inv .words
-
--- src/lib.rt:625:17
-write-rule-same-length-4 : (t : ℕ) → write-rule-lts.Need-same-length-4 (calls-write-rule t) (write-rule-at t) write-rule.Post write-rule-Inv-loop write-rule-μ-loop
-write-rule-same-length-4 t c = c .before .before .before .before .before .before .before .loop .inv .bytes
-
--- src/lib.rt:625:17
-write-rule-returns-2 : (t : ℕ) → write-rule-lts.Need-returns-2 (calls-write-rule t) (write-rule-at t) write-rule.Post write-rule-Inv-loop write-rule-μ-loop
-write-rule-returns-2 t c = let inv = c .before .before .before .before .before .before .before .loop .inv in absurd (go-none inv (λ e. c .before .before .before .if2 .left (c .before .before .before .before .kind-at2 .ensures ∙ e)) (λ e. c .before .before .before .before .before .if1 .taken (c .before .before .before .before .before .before .kind-at .ensures ∙ e)) (c .before .before .body-of .ensures) (c .enum-told2 .given .1))
+write-rule-body-of-requires t c κs = let inv = c .before .before .before .before .loop .inv in let s = c .before .before .before .before .before .before .before .before .before .before .before in (record { rows = _; led = s .pre .1 .0 }, (s .pre .1 .0 .given .inside, (root (ahead inv .at) .inside, (is-name (ahead inv) (λ e. c .if2 .left (c .before .kind-at2 .ensures ∙ e)) (λ e. c .before .before .if1 .taken (c .before .before .before .kind-at .ensures ∙ e)), name-is (ahead inv) (λ e. c .if2 .left (c .before .kind-at2 .ensures ∙ e)) (λ e. c .before .before .if1 .taken (c .before .before .before .kind-at .ensures ∙ e)) (inv .first .lent)))))
 
 -- src/lib.rt:628:13
 write-rule-sub-fuel-left : (t : ℕ) → write-rule-lts.Need-sub-fuel-left (calls-write-rule t) (write-rule-at t) write-rule.Post write-rule-Inv-loop write-rule-μ-loop
-write-rule-sub-fuel-left t c = let inv = c .before .before .before .before .before .before .before .before .loop .inv in name-has (ahead inv) (λ e. c .before .before .before .before .if2 .left (c .before .before .before .before .before .kind-at2 .ensures ∙ e)) (λ e. c .before .before .before .before .before .before .if1 .taken (c .before .before .before .before .before .before .before .kind-at .ensures ∙ e))
+write-rule-sub-fuel-left t c = let inv = c .before .before .before .before .before .loop .inv in name-has (ahead inv) (λ e. c .before .if2 .left (c .before .before .kind-at2 .ensures ∙ e)) (λ e. c .before .before .before .if1 .taken (c .before .before .before .before .kind-at .ensures ∙ e))
 
 -- src/lib.rt:603:5
 write-rule-loop-less-2 : (t : ℕ) → write-rule-lts.Need-loop-less-2 (calls-write-rule t) (write-rule-at t) write-rule.Post write-rule-Inv-loop write-rule-μ-loop
-write-rule-loop-less-2 t c = let inv = c .before .before .before .before .before .before .before .before .loop .inv in let s = c .before .before .before .before .before .before .before .before .before .before .before .before .before .before .before in body-less inv (λ e. c .before .before .before .before .if2 .left (c .before .before .before .before .before .kind-at2 .ensures ∙ e)) (λ e. c .before .before .before .before .before .before .if1 .taken (c .before .before .before .before .before .before .before .kind-at .ensures ∙ e)) (c .before .before .before .body-of .ensures) (c .before .body .given .1) (s .good .1 .0 .0)
+write-rule-loop-less-2 t c = let inv = c .before .before .before .before .before .loop .inv in let s = c .before .before .before .before .before .before .before .before .before .before .before .before in body-less inv (λ e. c .before .if2 .left (c .before .before .kind-at2 .ensures ∙ e)) (λ e. c .before .before .before .if1 .taken (c .before .before .before .before .kind-at .ensures ∙ e)) (λ u l. c .body-of .ensures _ u l (s .pre .1 .0 .targets u l)) (s .good .1 .0 .0)
 
 -- src/lib.rt:603:5
 write-rule-loop-again-2 : (t : ℕ) → write-rule-lts.Need-loop-again-2 (calls-write-rule t) (write-rule-at t) write-rule.Post write-rule-Inv-loop write-rule-μ-loop
-write-rule-loop-again-2 t c = let inv = c .before .before .before .before .before .before .before .before .loop .inv in let s = c .before .before .before .before .before .before .before .before .before .before .before .before .before .before .before in go-body inv (λ e. c .before .before .before .before .if2 .left (c .before .before .before .before .before .kind-at2 .ensures ∙ e)) (λ e. c .before .before .before .before .before .before .if1 .taken (c .before .before .before .before .before .before .before .kind-at .ensures ∙ e)) (c .before .before .before .body-of .ensures) (c .before .body .given .1) (s .good .1 .0 .0)
+write-rule-loop-again-2 t c = let inv = c .before .before .before .before .before .loop .inv in let s = c .before .before .before .before .before .before .before .before .before .before .before .before in go-body inv (λ e. c .before .if2 .left (c .before .before .kind-at2 .ensures ∙ e)) (λ e. c .before .before .before .if1 .taken (c .before .before .before .before .kind-at .ensures ∙ e)) (λ u l. c .body-of .ensures _ u l (s .pre .1 .0 .targets u l)) (s .good .1 .0 .0)
 
 -- src/lib.rt:631:5
 write-rule-put-str-requires : (t : ℕ) → write-rule-lts.Need-put-str-requires (calls-write-rule t) (write-rule-at t) write-rule.Post write-rule-Inv-loop write-rule-μ-loop
-write-rule-put-str-requires t c κs = let inv = c .before .before .before .before .loop .inv in let s = c .before .before .before .before .before .before .before .before .before .before .before in (s .pre .1 .0 .inside, (root (ahead inv .at) .inside, (sym (c .before .before .before .kind-at .ensures) ∙ c .before .before .if1 .left, inv .room)))
+write-rule-put-str-requires t c κs = let inv = c .before .before .before .before .loop .inv in let s = c .before .before .before .before .before .before .before .before .before .before .before in (s .pre .1 .0 .given .inside, (root (ahead inv .at) .inside, (sym (c .before .before .before .kind-at .ensures) ∙ c .before .before .if1 .left, inv .room)))
 
 -- src/lib.rt:584:1
-write-rule-same-length-5 : (t : ℕ) → write-rule-lts.Need-same-length-5 (calls-write-rule t) (write-rule-at t) write-rule.Post write-rule-Inv-loop write-rule-μ-loop
-write-rule-same-length-5 t c = let inv = c .before .before .before .before .before .before .before .before .before .loop .inv in c .before .before .before .before .put-str .kept .1 .1 .1 .0 ∙ inv .words
+write-rule-same-length-3 : (t : ℕ) → write-rule-lts.Need-same-length-3 (calls-write-rule t) (write-rule-at t) write-rule.Post write-rule-Inv-loop write-rule-μ-loop
+write-rule-same-length-3 t c = let inv = c .before .before .before .before .before .before .before .before .before .loop .inv in c .before .before .before .before .put-str .kept .1 .1 .1 .0 ∙ inv .words
 
 -- src/lib.rt:584:1
-write-rule-same-length-6 : (t : ℕ) → write-rule-lts.Need-same-length-6 (calls-write-rule t) (write-rule-at t) write-rule.Post write-rule-Inv-loop write-rule-μ-loop
-write-rule-same-length-6 t c = let inv = c .before .before .before .before .before .before .before .before .before .loop .inv in c .before .before .before .before .put-str .kept .1 .1 .1 .1 .0 ∙ inv .bytes
+write-rule-same-length-4 : (t : ℕ) → write-rule-lts.Need-same-length-4 (calls-write-rule t) (write-rule-at t) write-rule.Post write-rule-Inv-loop write-rule-μ-loop
+write-rule-same-length-4 t c = let inv = c .before .before .before .before .before .before .before .before .before .loop .inv in c .before .before .before .before .put-str .kept .1 .1 .1 .1 .0 ∙ inv .bytes
 
 -- src/lib.rt:584:1
-write-rule-returns-3 : (t : ℕ) → write-rule-lts.Need-returns-3 (calls-write-rule t) (write-rule-at t) write-rule.Post write-rule-Inv-loop write-rule-μ-loop
-write-rule-returns-3 t c = let inv = c .before .before .before .before .before .before .before .before .before .loop .inv in λ u r ss l a sp. let z = sym (c .before .before .before .before .before .before .before .before .kind-at .ensures) ∙ c .before .before .before .before .before .before .before .if1 .left in last-str (inv .goes u r ss l a sp) (λ e. omega (arith, e, z)) z (c .before .before .before .before .put-str .result) _ _ (c .before .before .before .before .put-str .ensures)
+write-rule-returns-2 : (t : ℕ) → write-rule-lts.Need-returns-2 (calls-write-rule t) (write-rule-at t) write-rule.Post write-rule-Inv-loop write-rule-μ-loop
+write-rule-returns-2 t c = let inv = c .before .before .before .before .before .before .before .before .before .loop .inv in λ u r ss l a sp. let z = sym (c .before .before .before .before .before .before .before .before .kind-at .ensures) ∙ c .before .before .before .before .before .before .before .if1 .left in last-str (inv .goes u r ss l a sp) (λ e. omega (arith, e, z)) z (c .before .before .before .before .put-str .result) _ _ (c .before .before .before .before .put-str .ensures)
 
 pub +write-leaf+write-rule-spec : {M : Type 1} → statement M
 +write-leaf+write-rule-spec = close μ-write-leaf μ-write-rule (λ t. write-leaf-lts.spec (calls-write-leaf t)
@@ -228,14 +195,11 @@ pub +write-leaf+write-rule-spec : {M : Type 1} → statement M
     (write-leaf-same-length-2 t)
     (write-leaf-returns t)
     (write-leaf-body-of-requires t)
-    (write-leaf-enum-known-body t)
-    (write-leaf-enum-told t)
-    (write-leaf-returns-2 t)
     (write-leaf-sub-write-rule t)
     (write-leaf-write-rule-requires t)
     (write-leaf-same-length-3 t)
     (write-leaf-same-length-4 t)
-    (write-leaf-returns-3 t))
+    (write-leaf-returns-2 t))
     λ t. write-rule-lts.spec (
       kind-at-reads.Asked,
       kind-at-reads.Learnt,
@@ -266,15 +230,10 @@ pub +write-leaf+write-rule-spec : {M : Type 1} → statement M
     (write-rule-loop-less t)
     (write-rule-loop-again t)
     (write-rule-body-of-requires t)
-    (write-rule-enum-known-body t)
-    (write-rule-enum-told-2 t)
-    (write-rule-same-length-3 t)
-    (write-rule-same-length-4 t)
-    (write-rule-returns-2 t)
     (write-rule-sub-fuel-left t)
     (write-rule-loop-less-2 t)
     (write-rule-loop-again-2 t)
     (write-rule-put-str-requires t)
-    (write-rule-same-length-5 t)
-    (write-rule-same-length-6 t)
-    (write-rule-returns-3 t)
+    (write-rule-same-length-3 t)
+    (write-rule-same-length-4 t)
+    (write-rule-returns-2 t)

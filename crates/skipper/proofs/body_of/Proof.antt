@@ -1,4 +1,4 @@
-use Prim.Native.Nat.{_+_, _-_, _*_, _/_, _≤_, _<_}
+use Prim.Native.Nat.{_/_, _<_}
 use native.Mathlib.Omega.{arith}
 use lib.ListN.{length}
 use Rattle.grammar.specs.Tree.{Ident}
@@ -6,124 +6,113 @@ use Rattle.rows.specs.Rows.{xAt, yAt}
 use Rattle.rows.proofs.Cells.{in-text, lit-shape}
 use Rattle.names.specs.Names.{First}
 use Rattle.skipper.specs.Skips.{literalAt}
-use Rattle.skipper.proofs.Leaf.{finds-at, finds-nothing, rule-there, rule-before, rule-end, name-found, name-missing}
+use Rattle.skipper.proofs.Leaf.{rule-end}
 use Rattle.skipper.proofs.Onward.{row-here}
+use Rattle.skipper.proofs.Ways.{told-below, told-body}
 use borrow.Author.Needs.{needs}
 use Rattle.skipper.proofs.body_of.Statement.{statement}
 use Rattle.skipper.proofs.body_of.Tie as tie
-use Rattle.skipper.proofs.body_of.Reads as reads
-use Rattle.skipper.proofs.body_of.Lts as lts
-use Rattle.names.proofs.find_rule.Reads as find-rule-reads
-use Rattle.rows.proofs.wide.Reads as wide-reads
 
--- the rule that was found
-rule : (c : tie.After-known-told) → let a = c .before .before .before .before .before .before .before .before .before .before .before .before .before .args in First (length (a .given-rules .now) / 4) (a .given-rules .now) (a .given-text .now) (literalAt (a .rows .now) (a .text .now) (a .root)) (c .before .i .given .0 .0)
+-- the rule that was found, and the one that it is told
+rule : (c : tie.After-told) → let a = c .before .before .before .before .before .before .before .before .before .before .before .args in First (length (a .given-rules .now) / 4) (a .given-rules .now) (a .given-text .now) (literalAt (a .rows .now) (a .text .now) (a .root)) (c .before .find-known .result)
 unfolding xAt yAt
-rule c = finds-at _ _ _ _ (c .before .before .before .before .before .wide .ensures) (c .before .before .before .before .wide2 .ensures) (c .before .before .before .find-rule .ensures) (c .before .i .given .1)
+rule c = rw (c .before .before .before .before .wide .ensures, c .before .before .wide2 .ensures) at (c .before .find-known .ensures)
 
--- src/lib.rt:534:14
+below : (c : tie.After-told) → c .told .result < length (c .before .before .before .before .before .before .before .before .before .before .before .args .given-rules .now) / 4
+below c = let s = c .before .before .before .before .before .before .before .before .before .before .before in let d = s .pre .0 .led in told-below (d .given .lent) (s .args .given-text .now) (d .targets (d .given .table) (d .given .lent)) _ (rule c) (c .told .ensures)
+
+-- src/lib.rt:645:14
 mul-at : tie.Need-mul-at
 mul-at c = search needs
 
--- src/lib.rt:535:18
-add-x : tie.Need-add-x
-add-x c = search needs
+-- src/lib.rt:646:23
+add-wide : tie.Need-add-wide
+add-wide c = search needs
 
--- src/lib.rt:535:13
-mul-x : tie.Need-mul-x
-mul-x c = search needs
+-- src/lib.rt:646:18
+mul-wide : tie.Need-mul-wide
+mul-wide c = search needs
 
--- src/lib.rt:535:13
-shared-slice-read-x : tie.Need-shared-slice-read-x
-shared-slice-read-x c = search needs
+-- src/lib.rt:646:18
+shared-slice-read-wide : tie.Need-shared-slice-read-wide
+shared-slice-read-wide c = search needs
 
--- src/lib.rt:536:18
-add-y : tie.Need-add-y
-add-y c = search needs
-
--- src/lib.rt:536:13
-mul-y : tie.Need-mul-y
-mul-y c = search needs
-
--- src/lib.rt:536:13
-shared-slice-read-y : tie.Need-shared-slice-read-y
-shared-slice-read-y c = search needs
-
--- src/lib.rt:537:79
+-- src/lib.rt:646:9
 wide-requires : tie.Need-wide-requires
 wide-requires c κs = search needs
 
--- src/lib.rt:537:88
+-- src/lib.rt:647:23
+add-wide-2 : tie.Need-add-wide-2
+add-wide-2 c = search needs
+
+-- src/lib.rt:647:18
+mul-wide-2 : tie.Need-mul-wide-2
+mul-wide-2 c = search needs
+
+-- src/lib.rt:647:18
+shared-slice-read-wide-2 : tie.Need-shared-slice-read-wide-2
+shared-slice-read-wide-2 c = search needs
+
+-- src/lib.rt:647:9
 wide-requires-2 : tie.Need-wide-requires-2
 wide-requires-2 c κs = search needs
 
--- src/lib.rt:537:24
-find-rule-requires : tie.Need-find-rule-requires
+-- src/lib.rt:648:9
+find-known-requires : tie.Need-find-known-requires
 unfolding xAt yAt
-find-rule-requires c κs = let s = c .before .before .before .before .before .before .before .before .before in let g = s .pre .0 .given in (g .hashed, rw (c .before .wide .ensures, c .wide2 .ensures) (in-text _ (s .pre .1 .0) (row-here _ _ (s .pre .1 .1 .0)) (rw (s .pre .1 .1 .1) (lit-shape Ident))))
+find-known-requires c κs = let s = c .before .before .before .before .before .before .before .before .before in (s .pre .0 .led .given .hashed, rw (c .before .before .wide .ensures, c .wide2 .ensures) (in-text _ (s .pre .1 .0) (row-here _ _ (s .pre .1 .1 .0)) (rw (s .pre .1 .1 .1 .0) (lit-shape Ident)), s .pre .1 .1 .1 .1))
 
--- src/lib.rt:537:19
-enum-known-i : tie.Need-enum-known-i
-enum-known-i c = search needs
+-- src/lib.rt:649:9
+told-requires : tie.Need-told-requires
+told-requires c κs = search needs
 
--- src/lib.rt:539:9
-enum-told : tie.Need-enum-told
-enum-told c = search needs
+-- src/lib.rt:650:16
+mul-wide-3 : tie.Need-mul-wide-3
+mul-wide-3 c = let s = c .before .before .before .before .before .before .before .before .before .before .before in omega (arith, below c, s .pre .0 .led .given .hashed .long, s .good .1 .1 .0 .0)
 
--- src/lib.rt:539:9
-returns : tie.Need-returns
-unfolding xAt yAt
-returns c = λ w t l. let s = c .before .before .before .before .before .before .before .before .before .before .before .before in name-missing t (l .heads) _ (s .args .marks .now) _ (finds-nothing _ _ _ _ (c .before .before .before .before .wide .ensures) (c .before .before .before .wide2 .ensures) (c .before .before .find-rule .ensures) (c .enum-told .given .1))
+-- src/lib.rt:650:16
+add-wide-3 : tie.Need-add-wide-3
+add-wide-3 c = let s = c .before .before .before .before .before .before .before .before .before .before .before in omega (arith, below c, s .pre .0 .led .given .hashed .long, s .good .1 .1 .0 .0)
 
--- src/lib.rt:541:26
-mul-wide : tie.Need-mul-wide
-mul-wide c = let s = c .before .before .before .before .before .before .before .before .before .before .before .before .before in let g = s .pre .0 .given in omega (arith, rule c .below, g .hashed .long, s .good .1 .1 .0 .0)
+-- src/lib.rt:650:10
+mul-wide-4 : tie.Need-mul-wide-4
+mul-wide-4 c = let s = c .before .before .before .before .before .before .before .before .before .before .before in omega (arith, below c, s .pre .0 .led .given .hashed .long, s .good .1 .1 .0 .1)
 
--- src/lib.rt:541:26
-add-wide : tie.Need-add-wide
-add-wide c = let s = c .before .before .before .before .before .before .before .before .before .before .before .before .before in let g = s .pre .0 .given in omega (arith, rule c .below, g .hashed .long, s .good .1 .1 .0 .0)
+-- src/lib.rt:650:10
+shared-slice-read-wide-3 : tie.Need-shared-slice-read-wide-3
+shared-slice-read-wide-3 c = let s = c .before .before .before .before .before .before .before .before .before .before .before .before in omega (arith, below (c .before), s .pre .0 .led .given .hashed .long, s .good .1 .1 .0 .0)
 
--- src/lib.rt:541:20
-mul-wide-2 : tie.Need-mul-wide-2
-mul-wide-2 c = let s = c .before .before .before .before .before .before .before .before .before .before .before .before .before in let g = s .pre .0 .given in omega (arith, rule c .below, g .hashed .long, s .good .1 .1 .0 .1)
-
--- src/lib.rt:541:20
-shared-slice-read-wide : tie.Need-shared-slice-read-wide
-shared-slice-read-wide c = let s = c .before .before .before .before .before .before .before .before .before .before .before .before .before .before in let g = s .pre .0 .given in omega (arith, rule (c .before) .below, g .hashed .long)
-
--- src/lib.rt:541:15
+-- src/lib.rt:650:5
 wide-requires-3 : tie.Need-wide-requires-3
 wide-requires-3 c κs = search needs
 
--- src/lib.rt:541:15
-sub-t20 : tie.Need-sub-t20
-sub-t20 c = let s = c .before .before .before .before .before .before .before .before .before .before .before .before .before .before .before in let g = s .pre .0 .given in omega (arith, c .wide3 .ensures, rule-end (g .lent) (c .before .before .before .i .given .0 .0) (rule (c .before .before) .below) (g .ended))
+-- src/lib.rt:650:5
+sub-result : tie.Need-sub-result
+sub-result c = let d = c .before .before .before .before .before .before .before .before .before .before .before .before .before .pre .0 .led .given in omega (arith, c .wide3 .ensures, rule-end (d .lent) (c .before .before .told .result) (below (c .before .before)) (d .ended))
 
--- src/lib.rt:520:1
-returns-2 : tie.Need-returns-2
-returns-2 c = λ w t l. let s = c .before .before .before .before .before .before .before .before .before .before .before .before .before .before .before in let f = rule (c .before .before) in let i = c .before .before .before .i .given .0 .0 in let r = rule-there t (l .heads) i (f .below) in record { tree = r .rule .body; at = rule-before l i r (f .below) (s .pre .0 .given .ended) _ (c .wide3 .ensures); is = name-found t (l .heads) _ (s .args .marks .now) _ f r }
+-- src/lib.rt:630:1
+returns : tie.Need-returns
+returns c = λ w t l h. let s = c .before .before .before .before .before .before .before .before .before .before .before .before .before in told-body l (s .args .given-text .now) h _ (rule (c .before .before)) (c .before .before .told .ensures) (s .pre .0 .led .given .ended) (c .wide3 .ensures)
 
 pub body-of-spec : {M : Type 1} → statement M
 body-of-spec =
     tie.close
     (tie.spec
     mul-at
-    add-x
-    mul-x
-    shared-slice-read-x
-    add-y
-    mul-y
-    shared-slice-read-y
-    wide-requires
-    wide-requires-2
-    find-rule-requires
-    enum-known-i
-    enum-told
-    returns
-    mul-wide
     add-wide
-    mul-wide-2
+    mul-wide
     shared-slice-read-wide
+    wide-requires
+    add-wide-2
+    mul-wide-2
+    shared-slice-read-wide-2
+    wide-requires-2
+    find-known-requires
+    told-requires
+    mul-wide-3
+    add-wide-3
+    mul-wide-4
+    shared-slice-read-wide-3
     wide-requires-3
-    sub-t20
-    returns-2)
+    sub-result
+    returns)

@@ -1,5 +1,5 @@
-use mathlib.Core.Path.{_≡_, refl, sym, ap, _∙_}
-use Prim.Native.Nat.{_+_, _*_, _/_, _<_}
+use mathlib.Core.Path.{sym, ap, _∙_}
+use Prim.Native.Nat.{_+_, _*_, _/_}
 use native.Mathlib.Omega.{arith}
 use lib.ListN.{length, getD}
 use Rattle.grammar.specs.Text.{bytesAt}
@@ -9,7 +9,7 @@ use Rattle.rows.proofs.Laws.{Found, row-found, root-there}
 use Rattle.rows.proofs.Cells.{in-text, lit-shape}
 use Rattle.skipper.specs.Memory.{byMark}
 use Rattle.skipper.specs.Skips.{isList}
-use Rattle.skipper.proofs.Leaf.{finds-at, finds-nothing, nothing-mark, name-mark}
+use Rattle.skipper.proofs.Leaf.{finds-at, finds-nothing, nothing-list, name-list}
 use Rattle.skipper.proofs.Spelling.{mark-list, list-str, list-ident, list-other}
 use borrow.Author.Needs.{needs}
 use Rattle.skipper.proofs.leaf_listed.Statement.{statement}
@@ -73,7 +73,7 @@ enum-told-2 c = search needs
 
 -- src/lib.rt:386:9
 returns-4 : tie.Need-returns-4
-returns-4 c = λ u r l a. sym (list-ident _ _ (here (c .before .before .before .before .before .before .before)) a (c .before .before .before .before .before .if2 .left) ∙ ap (λ (n : Prim.Native.Nat.ℕ). isList (byMark n)) (nothing-mark u l _ _ _ (finds-nothing _ _ _ _ (c .before .before .before .before .wide .ensures) (c .before .before .before .wide2 .ensures) (c .before .before .find-rule .ensures) (c .enum-told2 .given .1))))
+returns-4 c = λ u r l a. sym (list-ident _ _ (here (c .before .before .before .before .before .before .before)) a (c .before .before .before .before .before .if2 .left) ∙ ap (λ (n : Prim.Native.Nat.ℕ). isList (byMark n)) (nothing-list u l _ _ _ (finds-nothing _ _ _ _ (c .before .before .before .before .wide .ensures) (c .before .before .before .wide2 .ensures) (c .before .before .find-rule .ensures) (c .enum-told2 .given .1))))
 
 -- src/lib.rt:388:11
 mul-result : tie.Need-mul-result
@@ -93,7 +93,7 @@ shared-slice-read-result c = omega (arith, rule (c .before) .below, c .before .b
 
 -- src/lib.rt:357:1
 returns-5 : tie.Need-returns-5
-returns-5 c = λ u r l a. sym (list-ident _ _ (here (c .before .before .before .before .before .before .before .before .before)) a (c .before .before .before .before .before .before .before .if2 .left) ∙ ap (λ (n : Prim.Native.Nat.ℕ). isList (byMark n)) (name-mark u l _ _ _ (rule (c .before))) ∙ mark-list (getD (c .before .before .before .before .before .before .before .before .before .before .before .before .before .before .before .before .before .before .args .marks .now) (c .before .before .i .given .0 .0 * 4 + 1) 0))
+returns-5 c = λ u r l a. sym (list-ident _ _ (here (c .before .before .before .before .before .before .before .before .before)) a (c .before .before .before .before .before .before .before .if2 .left) ∙ ap (λ (n : Prim.Native.Nat.ℕ). isList (byMark n)) (name-list u l _ _ _ (rule (c .before))) ∙ mark-list (getD (c .before .before .before .before .before .before .before .before .before .before .before .before .before .before .before .before .before .before .args .marks .now) (c .before .before .i .given .0 .0 * 4 + 1) 0))
 
 pub leaf-listed-spec : {M : Type 1} → statement M
 leaf-listed-spec =

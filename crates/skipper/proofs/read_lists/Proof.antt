@@ -22,6 +22,14 @@ forget-requires c κs = search needs
 read-rules-requires : tie.Need-read-rules-requires
 read-rules-requires c κs = fresh c
 
+-- what the reading left
+read : (c : tie.After-shorten-arg) → let a = c .before .before .before .before .before .before .before .before .before .before .before .before .before .before .args in Given (a .rules .now) (a .rows .now) (a .text .now) (c .before .before .before .before .read-rules .last .1 .1 .1 .0)
+read c = given-steady (fresh (c .before .before .before .before .before)) (c .before .before .before .before .read-rules .ensures .0 .steady) (c .before .before .before .before .read-rules .kept .1 .1 .1 .0)
+
+-- src/lib.rt:316:1
+shorten-requires : tie.Need-shorten-requires
+shorten-requires c κs = read c
+
 -- src/lib.rt:316:1
 same-length : tie.Need-same-length
 same-length c = search needs
@@ -36,9 +44,9 @@ same-length-2 c = search needs
 
 -- src/lib.rt:316:1
 returns-2 : tie.Need-returns-2
-returns-2 c = (given-steady (fresh (c .before .before .before .before)) (c .before .before .before .read-rules .ensures .0 .steady) (c .before .before .before .read-rules .kept .1 .1 .1 .0), λ u l. all-read (c .before .before .before .before .before .before .before .before .before .before .before .before .before .pre) u l (rw (c .before .before .before .before .before .before .before .forget .ensures) at (c .before .before .before .read-rules .ensures .1 u l)) (c .if1 .left))
+returns-2 c = (given-steady (read (c .before .before .before)) (c .before .before .shorten .ensures .0 .steady) (c .before .before .shorten .kept .1 .1 .1 .0), λ u l. all-read (c .before .before .before .before .before .before .before .before .before .before .before .before .before .before .before .before .before .pre) u l (rw (c .before .before .before .before .before .before .before .before .before .before .before .forget .ensures) at (c .before .before .before .before .before .before .before .read-rules .ensures .1 u l)) (c .before .before .before .before .if1 .left) (c .before .before .shorten .ensures .0) (c .before .before .shorten .ensures .1 u l))
 
 pub read-lists-spec : {M : Type 1} → statement M
 read-lists-spec =
     tie.close
-    (tie.spec forget-requires read-rules-requires same-length returns same-length-2 returns-2)
+    (tie.spec forget-requires read-rules-requires shorten-requires same-length returns same-length-2 returns-2)

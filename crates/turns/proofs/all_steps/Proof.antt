@@ -1,4 +1,5 @@
-use mathlib.Core.Path.{_∙_, refl}
+use mathlib.Core.Path.{_∙_, refl, sym}
+use Rattle.turns.proofs.Owning.{moved-five}
 use Rattle.grammar.specs.Table.{resolveTable}
 use Rattle.grammar.specs.Refusals.{tooLarge}
 use Rattle.grammar.specs.Optimize.{lastOf}
@@ -58,7 +59,7 @@ returns : tie.Need-returns
 returns c =
     let s = c .before .before .before .before .before .before .before .before .before .before .before .before .before .before .before .before .before .before .before .before .before .before .before .before .before .before .before .before .before .before .before .before in
     let r = s .pre .0 in
-    let z = s .pre .1 .1 in
+    let z = s .pre .1 in
     λ t l. let t0 = resolveTable (s .args .text .now) t in any-left tooLarge (firstFive t0) (lastTwo (lastOf (firstFive t0))) (five-full _ _ _ _ (c .enum-told .given .1) (c .before .before .before .before .before .before .before .before .before .before .before .before .before .before .first-five .ensures t l))
 
 -- src/lib.rt:325:27
@@ -66,11 +67,11 @@ last-two-requires : tie.Need-last-two-requires
 last-two-requires c κs =
     let s = c .before .before .before .before .before .before .before .before .before .before .before .before .before .before .before .before .before .before .before .before .before .before .before .before .before .before .before .before .before .before .before .before .before .before .before .before .before .before .before .before in
     let r = s .pre .0 in
-    let z = s .pre .1 .1 in
+    let z = s .pre .1 in
     let t = r .given .table in
     let l = ready-lent r in
     let f = five-done _ _ _ _ (c .before .before .before .before .before .before .before .before .i .given .1) (c .before .before .before .before .before .before .before .before .before .before .before .before .before .before .before .before .before .before .before .before .before .before .first-five .ensures t l) in
-    (s .pre .1 .0, (record { table = _; front = f .front; count = fifth-count r t l }, record { one = sized-same (c .before .before .before .before .before .before .before .before .before .before .before .before .before .before .before .before .before .before .before .before .before .before .first-five .kept .1 .1 .1 .1 .0) (c .before .before .before .before .before .before .before .before .before .before .before .before .before .before .before .before .before .before .before .before .before .before .first-five .kept .1 .1 .1 .1 .1 .0) (c .before .before .before .before .before .before .before .before .before .before .before .before .before .before .before .before .before .before .before .before .before .before .first-five .kept .1 .1 .1 .1 .1 .1 .0) (z .one); other = sized-same (c .before .before .before .before .before .before .before .before .before .before .before .before .before .before .before .before .before .before .before .before .before .before .first-five .kept .1 .1 .1 .1 .1 .1 .1 .0) (c .before .before .before .before .before .before .before .before .before .before .before .before .before .before .before .before .before .before .before .before .before .before .first-five .kept .1 .1 .1 .1 .1 .1 .1 .1 .0) (c .before .before .before .before .before .before .before .before .before .before .before .before .before .before .before .before .before .before .before .before .before .before .first-five .kept .1 .1 .1 .1 .1 .1 .1 .1 .1 .0) (z .other) }))
+    (moved-five t (fifth-count r t l) (f .front) (sym (r .given .lent .heads)) (r .given .hashed), (record { table = _; front = f .front; count = fifth-count r t l }, record { one = sized-same (c .before .before .before .before .before .before .before .before .before .before .before .before .before .before .before .before .before .before .before .before .before .before .first-five .kept .1 .1 .1 .1 .0) (c .before .before .before .before .before .before .before .before .before .before .before .before .before .before .before .before .before .before .before .before .before .before .first-five .kept .1 .1 .1 .1 .1 .0) (c .before .before .before .before .before .before .before .before .before .before .before .before .before .before .before .before .before .before .before .before .before .before .first-five .kept .1 .1 .1 .1 .1 .1 .0) (z .one); other = sized-same (c .before .before .before .before .before .before .before .before .before .before .before .before .before .before .before .before .before .before .before .before .before .before .first-five .kept .1 .1 .1 .1 .1 .1 .1 .0) (c .before .before .before .before .before .before .before .before .before .before .before .before .before .before .before .before .before .before .before .before .before .before .first-five .kept .1 .1 .1 .1 .1 .1 .1 .1 .0) (c .before .before .before .before .before .before .before .before .before .before .before .before .before .before .before .before .before .before .before .before .before .before .first-five .kept .1 .1 .1 .1 .1 .1 .1 .1 .1 .0) (z .other) }))
 
 -- src/lib.rt:325:19
 enum-known-m : tie.Need-enum-known-m
@@ -113,7 +114,7 @@ returns-2 : tie.Need-returns-2
 returns-2 c =
     let s = c .before .before .before .before .before .before .before .before .before .before .before .before .before .before .before .before .before .before .before .before .before .before .before .before .before .before .before .before .before .before .before .before .before .before .before .before .before .before .before .before .before .before .before .before .before .before .before .before .before .before .before .before .before .before .before .before .before in
     let r = s .pre .0 in
-    let z = s .pre .1 .1 in
+    let z = s .pre .1 in
     λ t l.
     let f = five-done _ _ _ _ (c .before .before .before .before .before .before .before .before .before .before .before .before .before .before .before .before .before .before .before .before .before .before .before .before .before .i .given .1) (c .before .before .before .before .before .before .before .before .before .before .before .before .before .before .before .before .before .before .before .before .before .before .before .before .before .before .before .before .before .before .before .before .before .before .before .before .before .before .before .first-five .ensures t l) in
     let h = two-full _ _ _ _ (c .enum-told2 .given .1) (c .before .before .before .before .before .before .before .before .before .before .before .before .before .before .before .before .last-two .ensures _ (f .front) (fifth-count r t l)) in
@@ -153,7 +154,7 @@ returns-3 : tie.Need-returns-3
 returns-3 c =
     let s = c .before .before .before .before .before .before .before .before .before .before .before .before .before .before .before .before .before .before .before .before .before .before .before .before .before .before .before .before .before .before .before .before .before .before .before .before .before .before .before .before .before .before .before .before .before .before .before .before .before .before .before .before .before .before .before .before .before .before in
     let r = s .pre .0 in
-    let z = s .pre .1 .1 in
+    let z = s .pre .1 in
     λ t l.
     let f = five-done _ _ _ _ (c .before .before .before .before .before .before .before .before .before .before .before .before .before .before .before .before .before .before .before .before .before .before .before .before .before .before .i .given .1) (c .before .before .before .before .before .before .before .before .before .before .before .before .before .before .before .before .before .before .before .before .before .before .before .before .before .before .before .before .before .before .before .before .before .before .before .before .before .before .before .before .first-five .ensures t l) in
     let h = two-done _ _ _ _ (c .before .m .given .1) (c .before .before .before .before .before .before .before .before .before .before .before .before .before .before .before .before .before .last-two .ensures _ (f .front) (fifth-count r t l)) in

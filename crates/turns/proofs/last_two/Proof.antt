@@ -1,6 +1,6 @@
 use mathlib.Core.Path.{refl}
 use Rattle.turns.proofs.Sizes.{sized-same, done-front, first-large, second-large, pair-ran, few-after, count-after}
-use Rattle.turns.proofs.Owning.{owns-six, stands-after}
+use Rattle.turns.proofs.Owning.{owns-six, stands-after, moved-after}
 use borrow.Author.Needs.{needs}
 use Rattle.turns.proofs.last_two.Statement.{statement}
 use Rattle.turns.proofs.last_two.Tie as tie
@@ -39,7 +39,7 @@ returns : tie.Need-returns
 returns c = let z = c .before .before .before .before .before .before .before .before .before .before .before .before .before .before .before .before .before .before .before .before .before .before .before .pre .1 .1 in λ t f e. first-large _ _ _ _ _ _ _ _ (z .other) (few-after 6 t t (z .one) f) (c .enum-told .given .1) (c .before .before .before .before .before .before .before .before .own .ensures t f e)
 
 restore-requires : tie.Need-restore-requires
-restore-requires c κs = let s = c .before .before .before .before .before .before .before .before .before .before .before .before .before .before .before .before .before .before .before .before .before .before .before .before .before .before .before .before .before .before .before in let k = s .pre .1 .0 in let z = s .pre .1 .1 in let f = done-front _ _ _ _ _ _ _ (c .before .before .before .before .before .before .before .before .q .given .1) (c .before .before .before .before .before .before .before .before .before .before .before .before .before .before .before .before .own .ensures (k .table) (k .front) (k .count)) in let y = sized-same (c .before .before .before .before .before .before .before .before .before .before .before .before .before .before .before .before .own .kept .1 .1 .1 .1 .1 .1 .1 .0) (c .before .before .before .before .before .before .before .before .before .before .before .before .before .before .before .before .own .kept .1 .1 .1 .1 .1 .1 .1 .1 .0) (c .before .before .before .before .before .before .before .before .before .before .before .before .before .before .before .before .own .kept .1 .1 .1 .1 .1 .1 .1 .1 .1 .0) (z .other) in (s .pre .0, (stands-after 6 k f, record { one = y; other = z .one }))
+restore-requires c κs = let s = c .before .before .before .before .before .before .before .before .before .before .before .before .before .before .before .before .before .before .before .before .before .before .before .before .before .before .before .before .before .before .before in let k = s .pre .1 .0 in let z = s .pre .1 .1 in let f = done-front _ _ _ _ _ _ _ (c .before .before .before .before .before .before .before .before .q .given .1) (c .before .before .before .before .before .before .before .before .before .before .before .before .before .before .before .before .own .ensures (k .table) (k .front) (k .count)) in let y = sized-same (c .before .before .before .before .before .before .before .before .before .before .before .before .before .before .before .before .own .kept .1 .1 .1 .1 .1 .1 .1 .0) (c .before .before .before .before .before .before .before .before .before .before .before .before .before .before .before .before .own .kept .1 .1 .1 .1 .1 .1 .1 .1 .0) (c .before .before .before .before .before .before .before .before .before .before .before .before .before .before .before .before .own .kept .1 .1 .1 .1 .1 .1 .1 .1 .1 .0) (z .other) in (moved-after 6 k f (s .pre .0), (stands-after 6 k f, record { one = y; other = z .one }))
 
 enum-known-r : tie.Need-enum-known-r
 enum-known-r c = search needs

@@ -9,49 +9,42 @@ use Rattle.turns.proofs.settle.Statement.{statement}
 use Rattle.turns.proofs.settle.Tie as tie
 use Rattle.turns.proofs.settle.Reads as reads
 use Rattle.turns.proofs.settle.Lts as lts
-use Rattle.names.proofs.index_names.Reads as index-names-reads
 use Rattle.restorer.proofs.settle.Reads as settle-reads
 
 -- src/lib.rt:209:17
 mul-words : tie.Need-mul-words
 mul-words c =
-    let s = c .before .before .before .before .before in
+    let s = c .before .before .before .before .before .before in
     let a = stands-within (s .pre .0) .1 in
-    search (needs, a, s .pre .1 .2)
+    search (needs, a, s .pre .1 .1 .1)
 
 -- src/lib.rt:211:9
 slice-aggregate-h : tie.Need-slice-aggregate-h
-slice-aggregate-h c = sym (length-take-le _ _ (stands-within (c .before .before .before .before .before .before .pre .0) .0))
+slice-aggregate-h c = sym (length-take-le _ _ (stands-within (c .before .before .before .before .before .before .before .pre .0) .0))
 
 -- src/lib.rt:212:9
 slice-aggregate-r : tie.Need-slice-aggregate-r
-slice-aggregate-r c = sym (length-take-le _ _ (stands-within (c .before .before .before .before .before .before .before .pre .0) .1))
+slice-aggregate-r c = sym (length-take-le _ _ (stands-within (c .before .before .before .before .before .before .before .before .pre .0) .1))
 
 -- src/lib.rt:213:9
 slice-aggregate-t : tie.Need-slice-aggregate-t
-slice-aggregate-t c = sym (length-take-le _ _ (stands-within (c .before .before .before .before .before .before .before .before .pre .0) .2))
-
--- src/lib.rt:214:5
-index-names-requires : tie.Need-index-names-requires
-index-names-requires c κs =
-    let s = c .before .before .before .before .before .before .before .before .before in
-    let l = length-take (s .args .count) (s .args .heads .now) in
-    (stands-holds (s .pre .0) .names, (omega (arith, l, s .pre .1 .0), omega (arith, l, s .pre .1 .1)))
+slice-aggregate-t c = sym (length-take-le _ _ (stands-within (c .before .before .before .before .before .before .before .before .before .pre .0) .2))
 
 -- src/lib.rt:215:5
 settle-requires : tie.Need-settle-requires
 settle-requires c κs =
-    let s = c .before .before .before .before .before .before .before .before .before .before .before .before .before in
-    (stands-marked (s .pre .0) (c .before .before .before .index-names .ensures), omega (arith, length-take (s .args .p .rows * 4) (s .args .rows .now), s .pre .1 .2))
+    let s = c .before .before .before .before .before .before .before .before .before .before .before in
+    (stands-marked (s .pre .0) (s .pre .1 .0), (omega (arith, length-take (s .args .p .rows * 4) (s .args .rows .now), s .pre .1 .1 .1), omega (arith, length-take (s .args .count) (s .args .heads .now), s .pre .1 .1 .0)))
 
--- src/lib.rt:204:1
 same-length : tie.Need-same-length
 same-length c = search needs
 
--- src/lib.rt:204:1
+same-length-2 : tie.Need-same-length-2
+same-length-2 c = search needs
+
 returns : tie.Need-returns
 returns c =
-    let h = c .before .before .settle .ensures in
+    let h = c .before .before .before .before .settle .ensures in
     record { marked = h .0 .marked; settles = h .1 }
 
 pub settle-spec : {M : Type 1} → statement M
@@ -62,7 +55,7 @@ settle-spec =
     slice-aggregate-h
     slice-aggregate-r
     slice-aggregate-t
-    index-names-requires
     settle-requires
     same-length
+    same-length-2
     returns)
