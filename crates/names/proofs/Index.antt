@@ -15,7 +15,7 @@ use Rattle.grammar.specs.Basic.{Bytes}
 use Rattle.grammar.specs.Text.{bytesAt}
 use Rattle.rows.specs.Rows.{Tells}
 use Rattle.rows.proofs.Cells.{tells-yes, tells-no}
-use Rattle.names.specs.Names.{nameOf, rowsBefore, hashFrom, bucketOf, halfAt, withHalf, symbolAt, onward, marked, withEnds, NamesInside, Slot, Way, stay, step, Ends, Leads, Shaped, Indexed, Walkable, Hashed, Twice, ApartAnswer, First}
+use Rattle.names.specs.Names.{nameOf, rowsBefore, hashFrom, lastBytes, bucketOf, halfAt, withHalf, symbolAt, onward, marked, withEnds, NamesInside, Slot, Way, stay, step, Ends, Leads, Shaped, Indexed, Walkable, Hashed, Twice, ApartAnswer, First}
 use Rattle.names.specs.declared.Apart.{Apart}
 use Rattle.names.specs.declared.Apart.the-variants.{Position, Nowhere}
 use Rattle.names.proofs.Marks.{length-marked, marked-other, marked-at}
@@ -204,7 +204,7 @@ module _ {rules : List ℕ} {text : Bytes} {marks : List ℕ} (h : Hashed rules 
 -- where the tree of a name starts
 pub start-slot : (n : ℕ) (key : Bytes) → 0 < n → Slot n (bucketOf n key * 8 + 1)
 unfolding bucketOf
-start-slot n key p = let l = mod-lt (hashFrom (length key % 2 ^ 32) (drop (length key - 12) key)) p in record { inside = omega arith; word = omega arith; place = omega arith }
+start-slot n key p = let l = mod-lt (hashFrom (length key % 2 ^ 32) (drop (length key - lastBytes) key)) p in record { inside = omega arith; word = omega arith; place = omega arith }
 
 -- no two rules have one name
 pub names-apart : {rules : List ℕ} {text : Bytes} {m : List ℕ} → Hashed rules text m → (j i : ℕ) → j < i → i < length rules / 4 → nameOf rules text j ≡ nameOf rules text i → ⊥

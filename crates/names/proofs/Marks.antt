@@ -16,7 +16,7 @@ use Rattle.grammar.specs.Text.{bytesAt}
 use Rattle.grammar.proofs.Logic.{or-left, eq-sameBytes, sameBytes-eq}
 use Rattle.rows.specs.Rows.{Tells, Unlike}
 use Rattle.rows.proofs.Laws.{length-part, same-parts}
-use Rattle.names.specs.Names.{rowsBefore, hashFrom, bucketOf, symbolAt, marked, withEnds, Ended}
+use Rattle.names.specs.Names.{rowsBefore, hashFrom, lastBytes, bucketOf, symbolAt, marked, withEnds, Ended}
 
 -- ---- the hash
 
@@ -47,7 +47,7 @@ part-drop t x n k h l =
     rw (getD-take, getD-drop, getD-drop, getD-take, getD-drop, e))
 
 -- the bucket of a part, by its last bytes
-pub bucket-is : (t : Bytes) (x n count from h : ℕ) → x + n ≤ length t → from ≡ n - 12 → h ≡ hashFrom (n % 2 ^ 32) (bytesAt t (x + from, n - from)) → h % count ≡ bucketOf count (bytesAt t (x, n))
+pub bucket-is : (t : Bytes) (x n count from h : ℕ) → x + n ≤ length t → from ≡ n - lastBytes → h ≡ hashFrom (n % 2 ^ 32) (bytesAt t (x + from, n - from)) → h % count ≡ bucketOf count (bytesAt t (x, n))
 unfolding bucketOf
 bucket-is t x n count from h l e f =
     let w : length (bytesAt t (x, n)) ≡ n = length-part t x n l in

@@ -25,14 +25,17 @@ abbrev pub rowsBefore : List ℕ → ℕ → ℕ
 rowsBefore rules zero = 0
 rowsBefore rules (suc i) = rowsBefore rules i + getD rules (i * 4 + 3) 0
 
--- a number for a name: its length and its last bytes are mixed in, twelve at most, so that it costs little however long the name is
+-- so many of a name's last bytes count for its bucket, and its length: it costs little however long the name is
+abbrev pub lastBytes : ℕ
+lastBytes = 8
+
 abbrev pub hashFrom : ℕ → Bytes → ℕ
 hashFrom h [] = h
 hashFrom h (b ∷ s) = hashFrom ((h * 16777619 + b) % 2 ^ 32) s
 
 -- the bucket of a name, where there are n
 unfoldable pub bucketOf : ℕ → Bytes → ℕ
-bucketOf n s = hashFrom (length s % 2 ^ 32) (drop (length s - 12) s) % n
+bucketOf n s = hashFrom (length s % 2 ^ 32) (drop (length s - lastBytes) s) % n
 
 -- the marks m with word j of the first n marks set to f, and all else as it was
 abbrev pub marked : (ℕ → ℕ) → ℕ → ℕ → List ℕ → List ℕ

@@ -12,7 +12,7 @@ ghost use Rattle.grammar.specs.Lists.{ANY};
 ghost use Rattle.grammar.specs.Stack.{stackNames};
 ghost use Rattle.grammar.specs.Refusals as refusals;
 ghost use Rattle.rows.specs.Rows.{Tells};
-ghost use Rattle.names.specs.Names.{nameOf, rowsBefore, hashFrom, bucketOf, halfAt, withHalf, symbolAt, onward, marked, withEnds, NamesInside, Ends, Indexed, Walkable, Hashed, IndexAnswer, NamesAnswer, ApartAnswer, First, Finds, IsName};
+ghost use Rattle.names.specs.Names.{nameOf, rowsBefore, hashFrom, lastBytes, bucketOf, halfAt, withHalf, symbolAt, onward, marked, withEnds, NamesInside, Ends, Indexed, Walkable, Hashed, IndexAnswer, NamesAnswer, ApartAnswer, First, Finds, IsName};
 use rows::wide;
 
 // What a search by name finds.
@@ -34,7 +34,7 @@ enum Apart {
 }
 
 // So many of a name's last bytes count for its bucket.
-const LAST: usize = 12;
+const LAST: usize = 8;
 
 // A byte as a number.
 fn byte(b: u8) -> usize
@@ -59,7 +59,7 @@ fn hash_bytes(text: &[u8], x: usize, n: usize, seed: usize) -> usize
 
 // Where the last bytes of a name of n bytes start.
 fn last_from(n: usize) -> usize
-    ensures { λ r. ⌜ r ≡ n - 12 ⌝ }
+    ensures { λ r. ⌜ r ≡ n - lastBytes ⌝ }
 {
     if LAST < n { n - LAST } else { 0 }
 }

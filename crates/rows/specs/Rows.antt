@@ -117,6 +117,10 @@ abbrev pub Tells : Bool → Type 0 → Type 0
 Tells true P = P
 Tells false P = P → ⊥
 
+-- so many bytes are compared at a time
+abbrev pub block : ℕ
+block = 32
+
 -- of n bytes of one text from x and of another from y, r are the same before the first that is not
 pub record Unlike (t : Bytes) (x : ℕ) (u : Bytes) (y n r : ℕ) : Type 0 where
   pub most : r ≤ n

@@ -6,7 +6,7 @@ ghost use lib.ListN.{length, getD};
 ghost use Rattle.grammar.specs.Tree.{Expr};
 ghost use Rattle.grammar.specs.Rows.{Span};
 ghost use Rattle.grammar.specs.Text.{bytesAt, resolve};
-ghost use Rattle.rows.specs.Rows.{rowAt, shapeOf, cellAt, Tells, Unlike, LitInside, At, StandsIn};
+ghost use Rattle.rows.specs.Rows.{rowAt, shapeOf, cellAt, Tells, block, Unlike, LitInside, At, StandsIn};
 
 // What a row lookup finds.
 pub enum Lookup {
@@ -87,7 +87,7 @@ pub fn part(text: &[u8], x: usize, n: usize) -> &[u8]
 }
 
 // So many bytes are compared at a time, with no test between them.
-const BLOCK: usize = 64;
+const BLOCK: usize = 32;
 
 // 0 where two bytes are the same.
 fn unlike(a: u8, b: u8) -> u8
@@ -105,8 +105,8 @@ fn larger(a: u8, b: u8) -> u8
 
 // Whether a block of one text from x and of another from y shows itself as the same. No test in the loop: many bytes go at a time.
 fn same_block(text1: &[u8], x: usize, text2: &[u8], y: usize) -> bool
-    requires { ⌜ (x + 64 ≤ length (now text1)) × (y + 64 ≤ length (now text2)) ⌝ }
-    ensures { λ r. ⌜ (r ≡ true → (k : ℕ) → k < 64 → getD (now (text1 .entry)) (x + k) 0 ≡ getD (now (text2 .entry)) (y + k) 0) ⌝ }
+    requires { ⌜ (x + block ≤ length (now text1)) × (y + block ≤ length (now text2)) ⌝ }
+    ensures { λ r. ⌜ (r ≡ true → (k : ℕ) → k < block → getD (now (text1 .entry)) (x + k) 0 ≡ getD (now (text2 .entry)) (y + k) 0) ⌝ }
 {
     let mut m: u8 = 0;
     let mut i = 0;

@@ -6,14 +6,15 @@ use borrow.Author.Count.{below-none, below-more}
 use borrow.Author.Tests.{eqb-true}
 use native.Mathlib.Omega.{arith}
 use lib.ListN.{getD}
+use Rattle.rows.specs.Rows.{block}
 use Rattle.rows.proofs.same_block.Statement.{statement}
 use Rattle.rows.proofs.same_block.Tie as tie
 
 abbrev Inv-loop : tie.InvT-loop
-Inv-loop text1 x text2 y m₀ i₀ m i = (i ≤ 64) × (m ≡ 0 → (k : ℕ) → k < i → getD text1 (x + k) 0 ≡ getD text2 (y + k) 0)
+Inv-loop text1 x text2 y m₀ i₀ m i = (i ≤ block) × (m ≡ 0 → (k : ℕ) → k < i → getD text1 (x + k) 0 ≡ getD text2 (y + k) 0)
 
 abbrev μ-loop : tie.MeasureT-loop
-μ-loop text1 x text2 y m₀ i₀ m i = 64 - i
+μ-loop text1 x text2 y m₀ i₀ m i = block - i
 
 loop-holds : tie.Need-loop-holds Inv-loop μ-loop
 loop-holds c = (omega arith, λ _. below-none _)

@@ -7,6 +7,7 @@ use lib.ListN.{getD}
 use borrow.Author.Count.{below-none}
 use borrow.Author.Tests.{not-false}
 use Rattle.rows.proofs.Laws.{below-block}
+use Rattle.rows.specs.Rows.{block}
 use Rattle.rows.proofs.same_blocks.Statement.{statement}
 use Rattle.rows.proofs.same_blocks.Tie as tie
 
@@ -41,7 +42,7 @@ loop-less : tie.Need-loop-less Inv-loop μ-loop
 loop-less c = omega arith
 
 loop-again : tie.Need-loop-again Inv-loop μ-loop
-loop-again c = let a = c .before .before .before .before .before .before .args in let l = c .before .before .before .loop in (omega arith, below-block (a .text1 .now) (a .text2 .now) (a .x) (a .y) (l .i) 64 (l .inv .1) (c .before .same-block .ensures (not-false _ (c .if1 .left))))
+loop-again c = let a = c .before .before .before .before .before .before .args in let l = c .before .before .before .loop in (omega arith, below-block (a .text1 .now) (a .text2 .now) (a .x) (a .y) (l .i) block (l .inv .1) (c .before .same-block .ensures (not-false _ (c .if1 .left))))
 
 returns-2 : tie.Need-returns-2 Inv-loop μ-loop
 returns-2 c = c .before .loop .inv
