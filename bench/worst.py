@@ -3,7 +3,7 @@
 
 Each is a family with parameters; without names, each family with its own values and with the further ones of MORE. With back=1, which every
 family of a Table takes, the rules stand in the other order. Beside the tables the file `fits` gets a line for each: its name, and the bytes
-of its packed text. `bucket` is the one function that knows the buckets of the index by last bytes."""
+of its packed text. `bucket` and `LAST` are all that knows the buckets of the index by last bytes."""
 import os
 import random
 import struct
@@ -14,6 +14,7 @@ STR, INSENS, RANGE, IDENT, POS, NEG, SEQ, CHOICE, OPT, REP, ONCE, EXACT, MIN, MA
 NORMAL, SILENT, ATOMIC, COMPOUND, NON_ATOMIC = range(5)
 ROWS, RULES, TEXT = 4096, 256, 65536
 PRIME, WORD = 16777619, 1 << 32
+LAST = 8  # so many last bytes of a name count for its bucket
 
 
 # ---- tables
@@ -105,7 +106,7 @@ def left(kind, items):
 def bucket(name, count):
     """The bucket of a name in the index by length and last bytes."""
     h = len(name)
-    for b in name[-12:]:
+    for b in name[-LAST:]:
         h = (h * PRIME + b) % WORD
     return h % count
 
@@ -200,14 +201,15 @@ def one_old_bucket(n, length, count):
     return names
 
 
-def deep(n, length, count, at=0, flip=0):
+def deep(n, length, count, at=0, flip=0, each=127):
     """n names of one length in one bucket of count, of which each is told from all before it by one byte more: the deepest tree of
-    decisions. They are alike but for the three bytes from `at` on, and for what the bucket needs in the last two."""
+    decisions. They are alike but for the bytes from `at` on, of which one tells `each` names, and for what the bucket needs in the last two."""
     names, goal, rng = [], None, random.Random(n * length + at)
-    assert at + 5 <= length and n <= 381
+    width = -(-(n - 1) // each)
+    assert at + width + 2 <= length and each < 128
     for i in range(n):
         name = bytearray(b"n" * length)
-        name[at:at + 3] = min(i, 127), min(max(i - 127, 0), 127), max(i - 254, 0)
+        name[at:at + width] = (min(max(i - each * j, 0), each) for j in range(width))
         goal = bucket(name, count) if goal is None else goal
         while bucket(name, count) != goal:
             name[-2:] = rng.randrange(128), rng.randrange(128)
@@ -411,33 +413,34 @@ def stirs(t):
 
 
 @family
-def kept_all(n=256, length=0, at=0, flip=0, alias=1, walks=0):
+def kept_all(n=256, length=0, at=0, flip=0, alias=1, way=0, walks=0):
     """A loop without a list as in `kept`, but the Push is the first row, so that restore's search comes by each Ident too, and the other
-    rules are Idents of the loop's rule: each Ident is looked up four times or, where it is a rule by itself, twice. walks: every step
-    changes something at the end of the loop's rule."""
+    rules are Idents of the loop's rule: each Ident is looked up four times or, where it is a rule by itself, twice. way: so many of these
+    name each other instead, and are read as well. walks: every step changes something at the end of the loop's rule."""
     t = Table()
     after = stirs(t) if walks else []
     k = (ROWS - (n - 1) - 8 - sum(len(tree) + 1 for tree in after)) // 2
     names = deep(n, length or (TEXT - 3) // (n + k + alias * (n - 2)), n, at, flip)
-    items = [t.id(names[-1])] * k + [t.lit(INSENS, b"")]
+    items = [t.id(names[-1])] * k + [t.id(names[-2 - way])]
     loop = one(REP, two(SEQ, one(NEG, (left if walks else chain)(CHOICE, items)), t.id(b"ANY")))
     tree = chain(SEQ, [one(PUSH, t.str(b"")), loop] + after)
-    return filled(t, names, tree, [t.id(names[-2]) if alias else t.str(b"")] * (n - 2))
+    others = [t.id(names[-2]) if alias else t.str(b"")] * (n - 2 - way) + [t.id(name) for name in names[-1 - way:-1]]
+    return filled(t, names, tree, others)
 
 
 @family
-def list_all(n=256, length=0, at=0, flip=0, alias=1, more=0):
-    """A loop whose list has two strings for each Ident, so many that the rows just fit, with a Push and other rules as in `kept_all`.
-    more: so many of its Idents give four strings, and the rows do not fit."""
-    d = 2 if more else 1
-    k = (ROWS - (n - 1 - d) - 3 * d - 6) // 2
+def list_all(n=256, length=0, at=0, flip=0, alias=1, way=0, walks=0, each=127):
+    """A loop whose list has two strings for each Ident, so many that the rows just fit: each of its Idents is looked up twice, and once more
+    for itself and twice for its strings while they are written. The Push, the other rules, `way` and `walks` as in `kept_all`."""
     t = Table()
-    names = deep(n, length or (TEXT - 3) // (n + k + 2 * d + alias * (n - 2 - d)), n, at, flip)
-    twice, end = two(CHOICE, t.id(names[-1]), t.id(names[-1])), names[-3]
-    tree = two(SEQ, one(PUSH, t.str(b"")), t.loop([t.id(names[-4])] * more + [t.id(end)] * (k - more)))
-    others = [t.id(names[-2]) if alias else t.str(b"")] * (n - 2 - d)
-    others += [two(CHOICE, t.id(end), t.id(end))] * (d - 1) + [twice]
-    return filled(t, names, tree, others)
+    after = stirs(t) if walks else []
+    k = (ROWS - (n - 2) - 3 - 6 - sum(len(tree) + 1 for tree in after)) // 2
+    names = deep(n, length or (TEXT - 3) // (n + k + 2 + alias * (n - 3)), n, at, flip, each)
+    items = [t.id(names[-3])] * (k - 1) + [t.id(names[-3 - way])]
+    loop = one(REP, two(SEQ, one(NEG, (left if walks else chain)(CHOICE, items)), t.id(b"ANY")))
+    tree = chain(SEQ, [one(PUSH, t.str(b"")), loop] + after)
+    others = [t.id(names[-2]) if alias else t.str(b"")] * (n - 3 - way) + [t.id(name) for name in names[-2 - way:-2]]
+    return filled(t, names, tree, others + [two(CHOICE, t.id(names[-1]), t.id(names[-1]))])
 
 
 @family
@@ -906,11 +909,11 @@ def list_first(levels=7, trees=6, leaf=63, fire=1, differ=1):
 
 
 @family
-def walked(k=2000, leaf=31, kind=CHOICE, turned=1, lit=STR, push=1):
+def walked(leaf=31, kind=CHOICE, turned=1, lit=STR, push=1):
     """A chain of literals, and at its end something for every step to change: each step walks it row by row."""
     t = Table()
     after = stirs(t)
-    k = min(k, (ROWS - 8 - 6 - sum(len(tree) + 1 for tree in after)) // 2)
+    k = (ROWS - 14 - sum(len(tree) + 1 for tree in after)) // 2
     loop = t.loop([t.str(b"")])
     tree = (left if turned else chain)(kind, [t.lit(lit, b"s" * leaf)] * k)
     t.rule(b"r", ATOMIC, chain(SEQ, ([one(PUSH, t.str(b""))] if push else []) + [loop, one(POS, tree)] + after))
@@ -918,7 +921,7 @@ def walked(k=2000, leaf=31, kind=CHOICE, turned=1, lit=STR, push=1):
 
 
 @family
-def walked_mixed(k=900, leaf=31, inner=OPT):
+def walked_mixed(k=1400, leaf=31, inner=OPT):
     """The same with Seq and Choice by turns, nested to the left, and a row with one child between."""
     t = Table()
     after = stirs(t)
@@ -932,8 +935,8 @@ def walked_mixed(k=900, leaf=31, inner=OPT):
 
 
 @family
-def single_rows(n=256, length=0):
-    """256 rules of sixteen rows, each of which every step changes a little."""
+def small_rules(n=256):
+    """Rules of a few rows, in each of which some step changes something."""
     t = Table()
     for i in range(n):
         s = t.str(b"")
@@ -1020,6 +1023,11 @@ def exact(n=256):
 
 # further values
 MORE = """
+kept_all:walks=1 kept_all:walks=1,way=85 kept_all:walks=1,way=85,at=20 kept_all:length=5 kept_all:alias=0 kept_all:back=1
+list_all:walks=1,way=85,each=11 list_all:walks=1,way=85 list_all:walks=1 list_all:length=5 list_all:alias=0 list_all:back=1
+loop_alias:long=1 loop_alias:flip=1 loop_alias:back=1 loop_alias:loops=8 names_twice:late=0
+factor_first:tail=1 factor_first:tail=1,levels=10,trees=1,fire=0 factor_steps:k=500,leaf=63 factor_heads:levels=9,leaf=127
+list_first:levels=5,trees=25 list_first:differ=0,fire=0 walked:lit=3 walked:kind=8 walked:turned=0 walked:push=0 walked_mixed:inner=11
 names_steps:flip=1 names_fit:flip=1 names_fit_late:flip=1 loop_steps:flip=1 loop_steps:target=0 loop_unknown:flip=1
 kept:flip=1 kept:target=0 kept:end=none kept:end=drop kept:loops=8 kept_full:flip=1 kept_full:at=1 kept_each:flip=1
 named:flip=1 named:unknown=1 named:unknown=1,flip=1 named:left_=1 named:kind=9 named:kind=9,flip=1
