@@ -3,7 +3,7 @@
 
 Each is a family with parameters; without names, each family with its own values and with the further ones of MORE. With back=1, which every
 family of a Table takes, the rules stand in the other order. Beside the tables the file `fits` gets a line for each: its name, and the bytes
-of its packed text. `bucket` is the one function that knows the buckets of the index by last bytes."""
+of its packed text. `bucket` and `LAST` are all that knows the buckets of the index by last bytes."""
 import os
 import random
 import struct
@@ -14,6 +14,7 @@ STR, INSENS, RANGE, IDENT, POS, NEG, SEQ, CHOICE, OPT, REP, ONCE, EXACT, MIN, MA
 NORMAL, SILENT, ATOMIC, COMPOUND, NON_ATOMIC = range(5)
 ROWS, RULES, TEXT = 4096, 256, 65536
 PRIME, WORD = 16777619, 1 << 32
+LAST = 8  # so many last bytes of a name count for its bucket
 
 
 # ---- tables
@@ -105,7 +106,7 @@ def left(kind, items):
 def bucket(name, count):
     """The bucket of a name in the index by length and last bytes."""
     h = len(name)
-    for b in name[-12:]:
+    for b in name[-LAST:]:
         h = (h * PRIME + b) % WORD
     return h % count
 
@@ -200,14 +201,15 @@ def one_old_bucket(n, length, count):
     return names
 
 
-def deep(n, length, count, at=0, flip=0):
+def deep(n, length, count, at=0, flip=0, each=127):
     """n names of one length in one bucket of count, of which each is told from all before it by one byte more: the deepest tree of
-    decisions. They are alike but for the three bytes from `at` on, and for what the bucket needs in the last two."""
+    decisions. They are alike but for the bytes from `at` on, of which one tells `each` names, and for what the bucket needs in the last two."""
     names, goal, rng = [], None, random.Random(n * length + at)
-    assert at + 5 <= length and n <= 381
+    width = -(-(n - 1) // each)
+    assert at + width + 2 <= length and each < 128
     for i in range(n):
         name = bytearray(b"n" * length)
-        name[at:at + 3] = min(i, 127), min(max(i - 127, 0), 127), max(i - 254, 0)
+        name[at:at + width] = (min(max(i - each * j, 0), each) for j in range(width))
         goal = bucket(name, count) if goal is None else goal
         while bucket(name, count) != goal:
             name[-2:] = rng.randrange(128), rng.randrange(128)
@@ -322,6 +324,36 @@ def loop_steps(n=256, target=-1, flip=0):
 
 
 @family
+def loop_alias(n=256, flip=0, loops=1, long=0):
+    """A loop that names each other rule, and then the last as often as there is room; the others are Idents of the last, so that each is
+    read and told. All names are alike up to their end and have the longest ways. long: the last bytes that are compared one by one."""
+    text, spans = steps(n, (TEXT - n - 43) // 64 * 64 - 1 if long else TEXT - n - 43)
+    if flip:
+        spans = spans[::-1]
+    t = Table(text + b"ANY")
+    k = (ROWS - (n - 1) - 5 * loops + 1) // 2
+    items = [t.id(s) for s in spans[1:]]
+    items += [t.id(spans[-1])] * (k - len(items))
+    each = -(-k // loops)
+    t.rule(spans[0], ATOMIC, chain(SEQ, [t.loop(items[i:i + each]) for i in range(0, k, each)]))
+    for s in spans[1:-1]:
+        t.rule(s, NORMAL, t.id(spans[-1]))
+    t.rule(spans[-1], NORMAL, t.str((0, 0)))
+    return t.case()
+
+
+@family
+def names_twice(n=256, late=1):
+    """Names as in `names_steps`, of which the last (or the second) is the first again: refusal 5."""
+    text, spans = steps(n)
+    t = Table(text)
+    spans = spans[:-1] + spans[-2:-1] if late else [spans[0]] * 2 + spans[2:]
+    for s in spans:
+        t.rule(s, NORMAL, t.str((0, 1)))
+    return t.case()
+
+
+@family
 def loop_unknown(n=255, flip=0):
     """Loops over one Ident each, of no rule, that is alike a rule's name but for its end."""
     text, spans = steps(n + 1, TEXT - n - 44)
@@ -362,6 +394,53 @@ def kept_full(n=256, at=0, flip=0):
     """The same with names as long as the packed text allows."""
     k = (ROWS - n - 7) // 2
     return kept(n, (TEXT - 40) // (n + k), at, -1, flip)
+
+
+def filled(t, names, tree, others, leaf=b""):
+    """The rule of `tree` second to last, a string as the last, and the others, each of one row or more, before them: the last two names of
+    `deep` are the two that take the longest way."""
+    for name, other in zip(names, others):
+        t.rule(name, NORMAL, other)
+    t.rule(names[-2], ATOMIC, tree)
+    t.rule(names[-1], NORMAL, t.str(leaf))
+    return t.case()
+
+
+def stirs(t):
+    """Trees that unroll, concatenate, factor and list change: each step then walks the whole rule, which it would copy otherwise."""
+    s, i = t.str(b""), t.id(b"")
+    return [one(EXACT, s, 1), one(POS, two(SEQ, s, s)), two(CHOICE, s, two(SEQ, s, i)), one(POS, two(SEQ, one(REP, two(SEQ, i, s)), i))]
+
+
+@family
+def kept_all(n=256, length=0, at=0, flip=0, alias=1, way=0, walks=0):
+    """A loop without a list as in `kept`, but the Push is the first row, so that restore's search comes by each Ident too, and the other
+    rules are Idents of the loop's rule: each Ident is looked up four times or, where it is a rule by itself, twice. way: so many of these
+    name each other instead, and are read as well. walks: every step changes something at the end of the loop's rule."""
+    t = Table()
+    after = stirs(t) if walks else []
+    k = (ROWS - (n - 1) - 8 - sum(len(tree) + 1 for tree in after)) // 2
+    names = deep(n, length or (TEXT - 3) // (n + k + alias * (n - 2)), n, at, flip)
+    items = [t.id(names[-1])] * k + [t.id(names[-2 - way])]
+    loop = one(REP, two(SEQ, one(NEG, (left if walks else chain)(CHOICE, items)), t.id(b"ANY")))
+    tree = chain(SEQ, [one(PUSH, t.str(b"")), loop] + after)
+    others = [t.id(names[-2]) if alias else t.str(b"")] * (n - 2 - way) + [t.id(name) for name in names[-1 - way:-1]]
+    return filled(t, names, tree, others)
+
+
+@family
+def list_all(n=256, length=0, at=0, flip=0, alias=1, way=0, walks=0, each=127):
+    """A loop whose list has two strings for each Ident, so many that the rows just fit: each of its Idents is looked up twice, and once more
+    for itself and twice for its strings while they are written. The Push, the other rules, `way` and `walks` as in `kept_all`."""
+    t = Table()
+    after = stirs(t) if walks else []
+    k = (ROWS - (n - 2) - 3 - 6 - sum(len(tree) + 1 for tree in after)) // 2
+    names = deep(n, length or (TEXT - 3) // (n + k + 2 + alias * (n - 3)), n, at, flip, each)
+    items = [t.id(names[-3])] * (k - 1) + [t.id(names[-3 - way])]
+    loop = one(REP, two(SEQ, one(NEG, (left if walks else chain)(CHOICE, items)), t.id(b"ANY")))
+    tree = chain(SEQ, [one(PUSH, t.str(b"")), loop] + after)
+    others = [t.id(names[-2]) if alias else t.str(b"")] * (n - 3 - way) + [t.id(name) for name in names[-2 - way:-2]]
+    return filled(t, names, tree, others + [two(CHOICE, t.id(names[-1]), t.id(names[-1]))])
 
 
 @family
@@ -696,8 +775,9 @@ def factor_heads(levels=9, leaf=64, differ=1, type_=COMPOUND):
     def tree(level, end):
         if level == 0:
             return t.str(b"h" * (leaf - 1) + end)
-        return two(CHOICE, two(SEQ, tree(level - 1, b"a"), t.str(b"")), two(SEQ, tree(level - 1, end if differ else b"a"), t.str(b"")))
-    t.rule(b"r", type_, tree(levels, b"b"))
+        mine = b"%d" % (level % 10)  # the other side's is another level's, or z
+        return two(CHOICE, two(SEQ, tree(level - 1, mine), t.str(b"")), two(SEQ, tree(level - 1, end if differ else mine), t.str(b"")))
+    t.rule(b"r", type_, tree(levels, b"z"))
     return t.case()
 
 
@@ -710,6 +790,33 @@ def factor_deep(k=680, type_=COMPOUND, head=8):
     for _ in range(k):
         tree = two(CHOICE, two(SEQ, a, tree), two(SEQ, a, t.str(b"")))
     t.rule(b"r", type_, tree)
+    return t.case()
+
+
+@family
+def factor_first(levels=8, trees=4, leaf=63, tail=0, fire=1, type_=COMPOUND):
+    """X | (X' ~ y) or, where `tail`, (X ~ y) | X', X the same again: each pair differs at its end only. At the end of the rule a Choice that
+    is factored: what the scan compares is compared a second and a third time."""
+    t = Table()
+    y = t.str(b"")
+
+    def tree(level, end):
+        if level == 0:
+            return t.str(b"h" * (leaf - 1) + end)
+        a, b = tree(level - 1, b"%d" % (level % 10)), tree(level - 1, end)
+        return two(CHOICE, two(SEQ, a, y), b) if tail else two(CHOICE, a, two(SEQ, b, y))
+    last = [two(CHOICE, y, two(SEQ, y, y))] if fire else []
+    t.rule(b"r", type_, chain(SEQ, [tree(levels, b"z")] * trees + last))
+    return t.case()
+
+
+@family
+def factor_steps(k=1000, leaf=31):
+    """(a ~ (a ~ ..)) | (a ~ (a ~ ..)): each factored Choice gives another."""
+    t = Table()
+    a = t.str(b"h" * leaf)
+    side = chain(SEQ, [a] * k)
+    t.rule(b"r", NORMAL, two(CHOICE, side, side))
     return t.case()
 
 
@@ -729,8 +836,9 @@ def list_nested(levels=9, leaf=64, differ=1, type_=NORMAL):
     def tree(level, end):
         if level == 0:
             return t.id(b"h" * (leaf - 1) + end)
-        return two(SEQ, one(REP, two(SEQ, tree(level - 1, b"a"), t.id(b"x"))), tree(level - 1, end if differ else b"a"))
-    t.rule(b"r", type_, tree(levels, b"b"))
+        mine = b"%d" % (level % 10)
+        return two(SEQ, one(REP, two(SEQ, tree(level - 1, mine), t.id(b"x"))), tree(level - 1, end if differ else mine))
+    t.rule(b"r", type_, tree(levels, b"z"))
     return t.case()
 
 
@@ -781,6 +889,59 @@ def mixed(k=1023, leaf=31):
     for i in range(2 * k):
         rows = rows + t.str(b"s" * leaf) + [((SEQ, CHOICE)[i // 2 % 2], 0, 0, len(rows) + 2)]
     t.rule(b"r", ATOMIC, rows)
+    return t.case()
+
+
+@family
+def list_first(levels=7, trees=6, leaf=63, fire=1, differ=1):
+    """(X ~ x)* ~ X' as in `list_nested`, many times, and at the end one that is listed."""
+    t = Table()
+    y = t.id(b"")
+
+    def tree(level, end):
+        if level == 0:
+            return t.id(b"h" * (leaf - 1) + end)
+        mine = b"%d" % (level % 10)
+        return two(SEQ, one(REP, two(SEQ, tree(level - 1, mine), y)), tree(level - 1, end if differ else mine))
+    last = [one(POS, two(SEQ, one(REP, two(SEQ, y, y)), y))] if fire else []
+    t.rule(b"r", NORMAL, chain(CHOICE, [tree(levels, b"z")] * trees + last))
+    return t.case()
+
+
+@family
+def walked(leaf=31, kind=CHOICE, turned=1, lit=STR, push=1):
+    """A chain of literals, and at its end something for every step to change: each step walks it row by row."""
+    t = Table()
+    after = stirs(t)
+    k = (ROWS - 14 - sum(len(tree) + 1 for tree in after)) // 2
+    loop = t.loop([t.str(b"")])
+    tree = (left if turned else chain)(kind, [t.lit(lit, b"s" * leaf)] * k)
+    t.rule(b"r", ATOMIC, chain(SEQ, ([one(PUSH, t.str(b""))] if push else []) + [loop, one(POS, tree)] + after))
+    return t.case()
+
+
+@family
+def walked_mixed(k=1400, leaf=31, inner=OPT):
+    """The same with Seq and Choice by turns, nested to the left, and a row with one child between."""
+    t = Table()
+    after = stirs(t)
+    rows = one(inner, t.str(b"s" * leaf))
+    for i in range(k):
+        rows = one(inner, rows + t.lit(INSENS, b"s" * leaf) + [((SEQ, CHOICE)[i % 2], 0, 0, len(rows) + 2)])
+        if len(rows) + 50 > ROWS:
+            break
+    t.rule(b"r", ATOMIC, chain(SEQ, [one(PUSH, t.str(b"")), t.loop([t.str(b"")]), one(POS, rows)] + after))
+    return t.case()
+
+
+@family
+def small_rules(n=256):
+    """Rules of a few rows, in each of which some step changes something."""
+    t = Table()
+    for i in range(n):
+        s = t.str(b"")
+        after = stirs(t)
+        t.rule(b"%03d" % i, ATOMIC, after[(i % 4)] if i % 5 else one(PUSH, s))
     return t.case()
 
 
@@ -862,6 +1023,11 @@ def exact(n=256):
 
 # further values
 MORE = """
+kept_all:walks=1 kept_all:walks=1,way=85 kept_all:walks=1,way=85,at=20 kept_all:length=5 kept_all:alias=0 kept_all:back=1
+list_all:walks=1,way=85,each=11 list_all:walks=1,way=85 list_all:walks=1 list_all:length=5 list_all:alias=0 list_all:back=1
+loop_alias:long=1 loop_alias:flip=1 loop_alias:back=1 loop_alias:loops=8 names_twice:late=0
+factor_first:tail=1 factor_first:tail=1,levels=10,trees=1,fire=0 factor_steps:k=500,leaf=63 factor_heads:levels=9,leaf=127
+list_first:levels=5,trees=25 list_first:differ=0,fire=0 walked:lit=3 walked:kind=8 walked:turned=0 walked:push=0 walked_mixed:inner=11
 names_steps:flip=1 names_fit:flip=1 names_fit_late:flip=1 loop_steps:flip=1 loop_steps:target=0 loop_unknown:flip=1
 kept:flip=1 kept:target=0 kept:end=none kept:end=drop kept:loops=8 kept_full:flip=1 kept_full:at=1 kept_each:flip=1
 named:flip=1 named:unknown=1 named:unknown=1,flip=1 named:left_=1 named:kind=9 named:kind=9,flip=1
