@@ -3,6 +3,7 @@ ghost use mathlib.Core.Path.{_≡_};
 ghost use Rattle.grammar.specs.Optimize.{optimize};
 ghost use Rattle.refusals.specs.Check.{lent};
 ghost use Rattle.arvedun.specs.Host.{seen};
+use optimizer::REPORT;
 
 // What a call answers: the refusal's number or 0, the counts, and for each step the rows before and after it.
 #[repr(C)]
@@ -11,7 +12,7 @@ pub struct ArvedunAnswer {
     pub rules: u32,
     pub rows: u32,
     pub text: u32,
-    pub report: [u32; 14],
+    pub report: [u32; REPORT],
 }
 
 #[no_mangle]

@@ -5,6 +5,7 @@ use mathlib.Core.Logic.{⊎-elim}
 use Prim.Native.Nat.{ℕ, zero, suc, _+_, _-_, _*_, _/_, _≤_, _<_}
 use native.Mathlib.Omega.{arith}
 use lib.ListN.{length, drop}
+use Rattle.grammar.specs.Numbers.{rowWidth}
 use Rattle.grammar.specs.Basic.{Bytes}
 use Rattle.grammar.specs.Tree.{Un, Expr, E, lit, fixed, skip, un, bin, size}
 use Rattle.grammar.specs.Rows.{Span, row}
@@ -172,7 +173,7 @@ up-none {w} {o₀} {base} {root} {q} h = record {
 }
 
 module _ {w o₀ : List ℕ} {base root first : ℕ} {q : Place} {o : List ℕ} {at i : ℕ} (u : Up w o₀ base root first q o at i) where
-  pub up-more : {k x y n : ℕ} {o₁ : List ℕ} → i < root → Found w (i + 1) k x y n → at < length o / 4 → first ≤ at → o₁ ≡ stored o (at * 4) (row (k, x, y) (at + 1 - first)) → Up w o₀ base root first q o₁ (at + 1) (i + 1)
+  pub up-more : {k x y n : ℕ} {o₁ : List ℕ} → i < root → Found w (i + 1) k x y n → at < length o / rowWidth → first ≤ at → o₁ ≡ stored o (at * rowWidth) (row (k, x, y) (at + 1 - first)) → Up w o₀ base root first q o₁ (at + 1) (i + 1)
   up-more {k} {x} {y} {o₁} h g l f z = record {
     low = omega (arith, u .low);
     high = omega arith;

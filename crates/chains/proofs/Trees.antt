@@ -5,6 +5,7 @@ use Prim.Native.Nat.{ℕ, suc, _+_, _*_, _<_}
 use native.Mathlib.Nat.{add-zero}
 use native.Mathlib.Omega.{arith}
 use lib.ListN.{length, length-append}
+use Rattle.grammar.specs.Numbers.{rowWidth}
 use Rattle.grammar.specs.Tree.{Bin, Seq, binKind, Expr, E, bin, size}
 use Rattle.grammar.specs.Rows.{Span, row, flat}
 use Rattle.grammar.specs.Text.{textOf, packed}
@@ -62,7 +63,7 @@ pub sizes-packs : (o : ℕ) (xs : List E) → sizes (packs o xs) ≡ sizes xs
 sizes-packs o [] = refl
 sizes-packs o (x ∷ xs) = omega (arith, packed-size o x, sizes-packs (o + length (textOf x)) xs)
 
-pub length-closing : (b : Bin) (xs : List (Expr Span)) (r : Expr Span) → length (closing b xs r) ≡ length xs * 4
+pub length-closing : (b : Bin) (xs : List (Expr Span)) (r : Expr Span) → length (closing b xs r) ≡ length xs * rowWidth
 length-closing b [] r = refl
 length-closing b (x ∷ xs) r = simp length-append (omega (arith, length-closing b xs r))
 

@@ -3,6 +3,7 @@ use mathlib.Core.Path.{_≡_}
 use mathlib.Core.List.{List, [], _∷_, _++_}
 use Prim.Native.Nat.{ℕ, _+_, _*_, _/_, _^_, _≤_, _<_}
 use lib.ListN.{length, take}
+use Rattle.grammar.specs.Numbers.{rowWidth}
 use Rattle.grammar.specs.Basic.{Bytes}
 use Rattle.grammar.specs.Tree.{Bin, binKind, Expr, E, bin, size}
 use Rattle.grammar.specs.Rows.{Span, row, flat}
@@ -41,8 +42,8 @@ closing b (x ∷ xs) r = closing b xs r ++ row (binKind b, 0, 0) (size (chain b 
 
 -- the trees xs and then r stand in the words o up to row i, after the words before
 pub record Forest (o : List ℕ) (i : ℕ) (before : List ℕ) (xs : List (Expr Span)) (r : Expr Span) : Type 0 where
-  pub words : take (i * 4) o ≡ before ++ (flats xs ++ flat r)
-  pub place : length before + (sizes xs + size r) * 4 ≡ i * 4
+  pub words : take (i * rowWidth) o ≡ before ++ (flats xs ++ flat r)
+  pub place : length before + (sizes xs + size r) * rowWidth ≡ i * rowWidth
 
 -- n trees and one more stand in o up to row i, the words have room for n rows more, and their counts are words
 pub record Closable (o : List ℕ) (i n : ℕ) : Type 0 where
@@ -51,14 +52,14 @@ pub record Closable (o : List ℕ) (i n : ℕ) : Type 0 where
   pub tree : Expr Span
   pub forest : Forest o i before trees tree
   pub count : length trees ≡ n
-  pub room : i + n ≤ length o / 4
+  pub room : i + n ≤ length o / rowWidth
   pub words : length o < 2 ^ 32
 
 -- the chain is closed by the rows after s, and nothing else of the words has changed; q is the place after it
 pub record Closed (q s : Place) (b : Bin) (xs : List (Expr Span)) (r : Expr Span) (o o′ : List ℕ) : Type 0 where
   pub rows : q .rows ≡ s .rows + length xs
   pub text : q .text ≡ s .text
-  pub words : o′ ≡ stored o (s .rows * 4) (closing b xs r)
+  pub words : o′ ≡ stored o (s .rows * rowWidth) (closing b xs r)
 
 -- never full: there is room
 abbrev pub ClosedAnswer : Wrote → Place → Bin → List (Expr Span) → Expr Span → List ℕ → List ℕ → Type 0

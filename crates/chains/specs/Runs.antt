@@ -3,6 +3,7 @@ use mathlib.Core.Path.{_≡_}
 use mathlib.Core.List.{List, [], _∷_}
 use Prim.Native.Nat.{ℕ, _+_, _/_, _^_, _≤_, _<_}
 use lib.ListN.{length}
+use Rattle.grammar.specs.Numbers.{rowWidth}
 use Rattle.grammar.specs.Tree.{Un, Expr, E, lit, fixed, skip, un, bin}
 use Rattle.grammar.specs.Rows.{Span}
 use Rattle.rows.specs.Rows.{At}
@@ -36,7 +37,7 @@ pub record Raisable (w : List ℕ) (base root : ℕ) (p q : Place) (o : List ℕ
   pub at : At w root tree
   pub run : base + length (ups tree) ≡ root
   pub order : p .rows ≤ q .rows
-  pub room : q .rows + length (ups tree) ≤ length o / 4
+  pub room : q .rows + length (ups tree) ≤ length o / rowWidth
   pub words : length o < 2 ^ 32
 
 -- whatever tree stands from p to q, the nodes us stand over it; never full

@@ -1,14 +1,18 @@
 // Right-nested chains: the rows that close one. Runs of nodes with one child each: where one ends, and its rows over another tree.
 ghost use mathlib.Core.Path.{_≡_};
 ghost use mathlib.Core.List.{List};
-ghost use Prim.Native.Nat.{ℕ, _+_};
+ghost use Prim.Native.Nat.{ℕ, _+_, _/_};
 ghost use lib.ListN.{length};
+ghost use Rattle.grammar.specs.Numbers.{kPair};
 ghost use Rattle.grammar.specs.Tree.{Bin, binKind, Expr};
 ghost use Rattle.grammar.specs.Rows.{Span};
-ghost use Rattle.rows.specs.Rows.{At, Stands, Tells, shapeOf};
+ghost use Rattle.rows.specs.Rows.{kindAt, At, Stands, Tells, shapeOf};
 ghost use Rattle.rows.specs.declared.Shape.the-variants.{One};
+ghost use Rattle.writing.specs.declared.Wrote.the-variants.{Done, Full};
 ghost use Rattle.chains.specs.Chains.{Forest, Closable, ClosedAnswer, IsBin};
 ghost use Rattle.chains.specs.Runs.{ups, Raisable, RaisedAnswer};
+use grammar::PAIR;
+use grammar::ROW_WIDTH;
 use rows::Lookup;
 use rows::Shape;
 use writing::Place;
@@ -55,6 +59,17 @@ pub fn close(out: &mut [u32], s: Place, kind: u32, n: usize) -> Wrote
     })
 }
 
+// Where a step that cannot grow ended: it is never full.
+pub fn ended(a: Wrote) -> Place
+    requires { ⌜ (a ≡ Full → ⊥) ⌝ }
+    ensures { λ q. ⌜ a ≡ Done q ⌝ }
+{
+    match a {
+        Wrote::Done(q) => q,
+        Wrote::Full => Place { rows: 0, text: 0 },
+    }
+}
+
 // Whether a row of this kind has one child.
 fn one_below(kind: u32) -> bool
     ensures { λ r. ⌜ Tells r (shapeOf kind ≡ One) ⌝ }
@@ -71,10 +86,18 @@ pub fn below(rows: &[u32], root: usize) -> usize
     ensures { λ b. ⌜ ((r : Expr Span) → At (now (rows .entry)) root r → b + length (ups r) ≡ root) ⌝ }
 {
     let mut base = root;
-    while one_below(rows[base * 4]) {
+    while one_below(rows[base * ROW_WIDTH]) {
         base -= 1;
     }
     base
+}
+
+// Whether row i has two children (kind 8 or 9).
+pub fn forks(rows: &[u32], i: usize) -> bool
+    requires { ⌜ Stands (now rows) i ⌝ }
+    ensures { λ r. ⌜ Tells r (kindAt (now (rows .entry)) i / 2 ≡ kPair) ⌝ }
+{
+    rows[i * ROW_WIDTH] / 2 == PAIR
 }
 
 // Writes the rows after `base` up to `root` over the tree that stands from p to q, with its sizes.

@@ -2,4 +2,4 @@
 pub mod Concats
 pub mod Ends
 pub mod Nodes
-mod Quiets
+pub mod Quiets

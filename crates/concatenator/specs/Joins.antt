@@ -5,6 +5,7 @@ use mathlib.Core.List.{List}
 use Prim.Native.Nat.{ℕ, _+_, _-_, _*_, _/_, _^_, _≤_, _<_}
 use lib.ListN.{length}
 use lib.Dec.{ltb, eqb}
+use Rattle.grammar.specs.Numbers.{rowWidth, kSeq}
 use Rattle.grammar.specs.Rows.{row}
 use Rattle.writing.specs.Writes.{stored}
 use Rattle.writing.specs.declared.Place.{Place}
@@ -13,13 +14,13 @@ use Rattle.writing.specs.declared.Wrote.the-variants.{Done, Full}
 
 -- a node of kind k over roots of the kinds a and b is one literal: a Seq of two Str, or of two Insens
 unfoldable pub joinsOf : ℕ → ℕ → ℕ → Bool
-joinsOf k a b = cond (eqb k 8) (cond (ltb a 2) (eqb a b) false) false
+joinsOf k a b = cond (eqb k kSeq) (cond (ltb a 2) (eqb a b) false) false
 
 -- the first child stands from p to q and the second from q to s, there is room for a row, and counts and offsets are words
 pub record Order (p q s : Place) (o : List ℕ) : Type 0 where
   pub first : p .rows < q .rows
   pub second : q .rows < s .rows
-  pub room : s .rows < length o / 4
+  pub room : s .rows < length o / rowWidth
   pub words : length o < 2 ^ 32
   pub text : p .text ≤ s .text
   pub bytes : s .text < 2 ^ 32
@@ -28,13 +29,13 @@ pub record Order (p q s : Place) (o : List ℕ) : Type 0 where
 pub record OneLit (a p s : Place) (k : ℕ) (o o′ : List ℕ) : Type 0 where
   pub rows : a .rows ≡ p .rows + 1
   pub text : a .text ≡ s .text
-  pub words : o′ ≡ stored o (p .rows * 4) (row (k, p .text, s .text - p .text) 1)
+  pub words : o′ ≡ stored o (p .rows * rowWidth) (row (k, p .text, s .text - p .text) 1)
 
 -- the node's own row after them
 pub record OwnRow (a p s : Place) (k : ℕ) (o o′ : List ℕ) : Type 0 where
   pub rows : a .rows ≡ s .rows + 1
   pub text : a .text ≡ s .text
-  pub words : o′ ≡ stored o (s .rows * 4) (row (k, 0, 0) (s .rows - p .rows + 1))
+  pub words : o′ ≡ stored o (s .rows * rowWidth) (row (k, 0, 0) (s .rows - p .rows + 1))
 
 abbrev pub Ended : Bool → Place → Place → Place → ℕ → ℕ → (o o′ : List ℕ) → Type 0
 Ended true a p s k l o o′ = OneLit a p s l o o′

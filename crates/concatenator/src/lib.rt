@@ -1,8 +1,9 @@
 // Concatenate: a Seq of two Str, or of two Insens, is one; bottom-up, in Atomic rules alone.
 ghost use mathlib.Core.Path.{_≡_};
-ghost use mathlib.Core.Bool.{true, false};
+ghost use mathlib.Core.Bool.{false};
 ghost use Prim.Native.Nat.{_-_};
 ghost use lib.ListN.{length};
+ghost use Rattle.grammar.specs.Numbers.{kSeq};
 ghost use Rattle.grammar.specs.Basic.{Bytes};
 ghost use Rattle.grammar.specs.Tree.{Expr};
 ghost use Rattle.grammar.specs.Rows.{Span};
@@ -13,8 +14,11 @@ ghost use Rattle.rows.specs.Rows.{kindAt, Inside, At, Stands};
 ghost use Rattle.writing.specs.Writes.{Areas};
 ghost use Rattle.writing.specs.Keeps.{KeptAnswer, Ready};
 ghost use Rattle.concatenator.specs.Joins.{joinsOf, Order, EndAnswer};
+use grammar::ATOMIC;
+use grammar::RANGE;
+use grammar::ROW_WIDTH;
+use grammar::SEQ;
 use rows::Lookup;
-use rows::Shape;
 use writing::Place;
 use writing::Wrote;
 
@@ -22,10 +26,10 @@ use writing::Wrote;
 fn joins(kind: u32, a: u32, b: u32) -> bool
     ensures { λ r. ⌜ r ≡ joinsOf kind a b ⌝ }
 {
-    if kind != 8 {
+    if kind != SEQ {
         return false;
     }
-    if a < 2 {
+    if a < RANGE {
         return a == b;
     }
     false
@@ -76,51 +80,13 @@ fn finish(out: &mut [u32], p: Place, q: Place, s: Place, kind: u32) -> Wrote
 }
 
 // Whether the Seq of row i is one literal.
-fn fires(rows: &[u32], i: usize) -> bool
+pub fn fires(rows: &[u32], i: usize) -> bool
     requires { ⌜ Stands (now rows) i ⌝ }
-    requires { ⌜ kindAt (now rows) i ≡ 8 ⌝ }
+    requires { ⌜ kindAt (now rows) i ≡ kSeq ⌝ }
     ensures { λ b. ⌜ (b ≡ false → (t : Bytes) (x : Expr Span) → At (now (rows .entry)) i x → orSame concat? (resolve t x) ≡ resolve t x) ⌝ }
 {
-    let right = i - 1;
-    let left = right - rows::wide(rows[right * 4 + 3]);
-    joins(8, rows[left * 4], rows[right * 4])
-}
-
-// Whether some Seq of the subtree of row `root` is.
-fn any_fires(rows: &[u32], root: usize) -> bool
-    requires { ⌜ Stands (now rows) root ⌝ }
-    ensures { λ b. ⌜ (b ≡ false → (t : Bytes) (r : Expr Span) → At (now (rows .entry)) root r → concatenate Atomic (resolve t r) ≡ resolve t r) ⌝ }
-{
-    let Lookup::Row {
-        kind: _,
-        x: _,
-        y: _,
-        size,
-    } = rows::row_at(rows, root)
-    else {
-        return true;
-    };
-    let mut i = root + 1 - rows::wide(size);
-    while i <= root {
-        if rows[i * 4] == 8 {
-            if fires(rows, i) {
-                return true;
-            }
-        }
-        i += 1;
-    }
-    false
-}
-
-// Whether a rule of a type, with the subtree of row `root`, is changed.
-pub fn changes(rows: &[u32], root: usize, rule: u32) -> bool
-    requires { ⌜ Stands (now rows) root ⌝ }
-    ensures { λ b. ⌜ (b ≡ true → rule ≡ 2) × (b ≡ false → (t : Bytes) (r : Expr Span) → At (now (rows .entry)) root r → concatenate rule (resolve t r) ≡ resolve t r) ⌝ }
-{
-    if rule == 2 {
-        return any_fires(rows, root);
-    }
-    false
+    let left = rows::left_of(rows, i);
+    joins(SEQ, rows[left * ROW_WIDTH], rows[(i - 1) * ROW_WIDTH])
 }
 
 // Writes the subtree of row `root`, which fits, at p: its children first, then its own row or the literal that they make.
@@ -138,39 +104,13 @@ fn bottom_up(
     ensures { λ a. ⌜ ((r : Expr Span) → At (now (rows .entry)) root r → KeptAnswer a p (concatenate Atomic (resolve (now (text .entry)) r)) (now (out .entry)) (now (out .exit)) (now (lits .entry)) (now (lits .exit))) ⌝ }
 {
     let base = chains::below(rows, root);
-    let Lookup::Row {
-        kind,
-        x: _,
-        y: _,
-        size: _,
-    } = rows::row_at(rows, base)
-    else {
-        return Wrote::Full;
-    };
-    if let Shape::Two = rows::shape_of(kind) {
-        let right = base - 1;
-        let Lookup::Row {
-            kind: _,
-            x: _,
-            y: _,
-            size: n,
-        } = rows::row_at(rows, right)
-        else {
-            return Wrote::Full;
-        };
-        let Wrote::Done(q) = bottom_up(rows, text, right - n as usize, out, lits, p) else {
-            return Wrote::Full;
-        };
-        let Wrote::Done(s) = bottom_up(rows, text, right, out, lits, q) else {
-            return Wrote::Full;
-        };
-        let Wrote::Done(e) = finish(out, p, q, s, kind) else {
-            return Wrote::Full;
-        };
-        chains::raise(rows, base, root, out, p, e)
-    } else {
-        writing::keep(rows, text, root, out, lits, p)
+    if !chains::forks(rows, base) {
+        return writing::keep(rows, text, root, out, lits, p);
     }
+    let q = chains::ended(bottom_up(rows, text, rows::left_of(rows, base), out, lits, p));
+    let s = chains::ended(bottom_up(rows, text, base - 1, out, lits, q));
+    let e = chains::ended(finish(out, p, q, s, rows[base * ROW_WIDTH]));
+    chains::raise(rows, base, root, out, p, e)
 }
 
 // Writes the concatenated subtree of row `root`, which fits, at p; in a rule of another type than Atomic (2), the subtree as it is.
@@ -188,7 +128,7 @@ pub fn concatenate(
     requires { ⌜ Areas (now out) (now lits) ⌝ }
     ensures { λ a. ⌜ ((r : Expr Span) → At (now (rows .entry)) root r → KeptAnswer a p (concatenate rule (resolve (now (text .entry)) r)) (now (out .entry)) (now (out .exit)) (now (lits .entry)) (now (lits .exit))) ⌝ }
 {
-    if changes(rows, root, rule) {
+    if rule == ATOMIC {
         bottom_up(rows, text, root, out, lits, p)
     } else {
         writing::keep(rows, text, root, out, lits, p)

@@ -2,5 +2,5 @@
 pub mod Factors
 mod Splits
 mod Walks
-mod Quiets
+pub mod Quiets
 mod Plans

@@ -8,6 +8,7 @@ use native.Mathlib.Omega.{arith}
 use borrow.Author.Tests.{eq-eqb, ne-eqb}
 use lib.ListN.{length, length-append}
 use lib.Dec.{eqb}
+use Rattle.grammar.specs.Numbers.{rowWidth}
 use Rattle.grammar.specs.Basic.{Bytes}
 use Rattle.grammar.specs.Tree.{E, Expr, Bin, Opt, Seq, Choice, lit, fixed, skip, un, bin, binKind, size, asChoice}
 use Rattle.grammar.specs.Rows.{Span}
@@ -16,7 +17,7 @@ use Rattle.rows.specs.declared.Shape.the-variants as shapes
 use Rattle.rows.specs.Rows.{At, sizeAt}
 use Rattle.rows.proofs.Laws.{root, size-pos}
 use Rattle.rows.proofs.Cells.{size-resolve}
-use Rattle.rows.proofs.Views.{TwoView, shapeIn, left-at, at-unique}
+use Rattle.rows.proofs.Views.{TwoView, shapeIn, pair-left, at-unique}
 use Rattle.writing.specs.declared.Place.{Place}
 use Rattle.writing.specs.declared.Wrote.{Wrote}
 use Rattle.writing.specs.Writes.{Fits}
@@ -78,8 +79,8 @@ module _ {z : Parts} (w : List ℕ) (e : Expr Span) where
   pub less-parts : z ≡ Fewer → PartsTold z w e → (b : Bin) (l r : Expr Span) → e ≡ bin b l r → ⊥
   less-parts h d = subst (λ (p : Parts). PartsTold p w e) h d
 
-pub two-node : {w : List ℕ} {i k x y n : ℕ} {e : Expr Span} (v : TwoView w i k x y n e) {m : ℕ} → m ≡ size (v .right) → NodeAt w k (i - 1 - m) (i - 1) e
-two-node v h = record { op = v .op; left = v .left; right = v .right; is = v .is; kind = v .kind; atLeft = left-at v _ h; atRight = v .atRight }
+pub two-node : {w : List ℕ} {i k x y n l : ℕ} {e : Expr Span} (v : TwoView w i k x y n e) → l ≡ i - 1 - sizeAt w (i - 1) → NodeAt w k l (i - 1) e
+two-node v h = record { op = v .op; left = v .left; right = v .right; is = v .is; kind = v .kind; atLeft = pair-left v h; atRight = v .atRight }
 
 pub pair-node : {w : List ℕ} {l r : ℕ} {e : Expr Span} → PairAt w l r e → NodeAt w 9 l r e
 pair-node a = record { op = Choice; left = a .left; right = a .right; is = a .is; kind = refl; atLeft = a .atLeft; atRight = a .atRight }
@@ -324,12 +325,12 @@ module _ {a : Plan} {tight : Bool} {w : List ℕ} {t : Bytes} {g e : E} (d : Pla
           }
 
       module _ {s : Place} {o₂ b₂ : List ℕ} (v : Kept s q (factored tight x₂) o₁ o₂ b₁ b₂) (lo₂ : length o₂ ≡ length o₁) where
-        pub over-fits : p .rows + size (overOf (a .kind) (factored tight x₁) (factored tight x₂)) ≤ length o₂ / 4
+        pub over-fits : p .rows + size (overOf (a .kind) (factored tight x₁) (factored tight x₂)) ≤ length o₂ / rowWidth
         over-fits =
             let z = over-size (a .kind) x₁ x₂ in
             omega (arith, f .rows, factored-size tight x₁, factored-size tight x₂, over-rows, z .rows x₁ x₂, z .rows (factored tight x₁) (factored tight x₂))
 
-        pub over-order : (p .rows ≤ q .rows) × ((q .rows ≤ s .rows) × (s .rows ≤ length o₂ / 4))
+        pub over-order : (p .rows ≤ q .rows) × ((q .rows ≤ s .rows) × (s .rows ≤ length o₂ / rowWidth))
         over-order =
             let z = over-size (a .kind) x₁ x₂ in
             (omega (arith, c .rows), (omega (arith, v .rows), omega (arith, over-fits, c .rows, v .rows, z .rows (factored tight x₁) (factored tight x₂))))

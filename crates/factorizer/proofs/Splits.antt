@@ -1,5 +1,5 @@
 -- A Seq's sides in rows, and the case of a Choice by what was told of its sides. Assumes nothing.
-use mathlib.Core.Path.{_≡_, ap, subst, _∙_}
+use mathlib.Core.Path.{_≡_, ap, subst}
 use mathlib.Core.Bool.{Bool, true}
 use mathlib.Core.List.{List}
 use mathlib.Core.Option.{none}
@@ -8,11 +8,9 @@ use Rattle.grammar.specs.Basic.{Bytes}
 use Rattle.grammar.specs.Tree.{Expr, Seq, bin, asSeq}
 use Rattle.grammar.specs.Rows.{Span}
 use Rattle.grammar.specs.Text.{resolve}
-use Rattle.rows.specs.Rows.{At, Inside, StandsIn, shapeOf}
-use Rattle.rows.proofs.Laws.{Found, found-size}
-use Rattle.rows.proofs.Views.{TwoView, as-two, two-is}
+use Rattle.rows.specs.Rows.{At, Inside, StandsIn}
+use Rattle.rows.proofs.Views.{SidesAt}
 use Rattle.rows.proofs.Insides.{inside-within}
-use Rattle.rows.proofs.Cells.{bin-shape}
 use Rattle.factorizer.specs.declared.Sides.{Sides}
 use Rattle.factorizer.specs.declared.Sides.the-variants.{Split, Other}
 use Rattle.factorizer.specs.declared.Case.the-variants.{Plain}
@@ -21,13 +19,8 @@ use Rattle.factorizer.proofs.Factors.{no-heads, no-tail, no-first, no-s
 
 -- ---- a Seq row
 
-pub seq-view : {w : List ℕ} {i k x y n : ℕ} {r : Expr Span} → Found w i k x y n → At w i r → k ≡ 8 → TwoView w i k x y n r
-seq-view f a e = as-two f a (ap shapeOf e ∙ bin-shape Seq)
-
-pub seq-at : {w : List ℕ} {i k x y n k′ x′ y′ n′ : ℕ} {r : Expr Span} → Found w i k x y n → At w i r → k ≡ 8 → Found w (i - 1) k′ x′ y′ n′ → {m : ℕ} → m ≡ n′ → SeqAt w (i - 1 - m) (i - 1) r
-seq-at f a e g h =
-    let v = seq-view f a e in
-    record { head = v .left; tail = v .right; is = two-is Seq v e; atHead = rw (h ∙ found-size g (v .atRight)) (v .atLeft); atTail = v .atRight }
+pub seq-at : {w : List ℕ} {i l : ℕ} {r : Expr Span} → SidesAt Seq w i l r → SeqAt w l (i - 1) r
+seq-at v = record { head = v .left; tail = v .right; is = v .is; atHead = v .atLeft; atTail = v .atRight }
 
 -- ---- what was told
 

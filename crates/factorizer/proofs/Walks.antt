@@ -5,6 +5,7 @@ use mathlib.Core.List.{List}
 use Prim.Native.Nat.{ℕ, _+_, _-_, _/_, _<_}
 use native.Mathlib.Omega.{arith}
 use lib.ListN.{length}
+use Rattle.grammar.specs.Numbers.{rowWidth}
 use Rattle.grammar.specs.Basic.{Bytes}
 use Rattle.grammar.specs.Tree.{E, Expr, Head, Un, Bin, Choice, lit, fixed, skip, un, bin, unHead, binKind}
 use Rattle.grammar.specs.Rows.{Span}
@@ -25,12 +26,12 @@ use Rattle.factorizer.proofs.Factors.{factored-other}
 
 -- ---- a node's own row ends it
 
-pub un-answer : (a : Wrote) {q p : Place} {e : E} {o o₁ t t₁ : List ℕ} (o₂ : List ℕ) (u : Un) → Kept q p e o o₁ t t₁ → {h : Head} → h ≡ unHead u → q .rows < length o₁ / 4
+pub un-answer : (a : Wrote) {q p : Place} {e : E} {o o₁ t t₁ : List ℕ} (o₂ : List ℕ) (u : Un) → Kept q p e o o₁ t t₁ → {h : Head} → h ≡ unHead u → q .rows < length o₁ / rowWidth
     → RowAnswer a q h (q .rows - p .rows + 1) o₁ o₂ → KeptAnswer a p (un u e) o o₂ t t₁
 un-answer Full o₂ u w k r g = g r
 un-answer (Done a) o₂ u w k r g = kept-un w u _ _ k (omega (arith, w .rows)) g
 
-pub bin-answer : (a : Wrote) {s q p : Place} {e f : E} {o o₁ o₂ t t₁ t₂ : List ℕ} (o₃ : List ℕ) (b : Bin) → Kept q p e o o₁ t t₁ → Kept s q f o₁ o₂ t₁ t₂ → {k : ℕ} → k ≡ binKind b → s .rows < length o₂ / 4
+pub bin-answer : (a : Wrote) {s q p : Place} {e f : E} {o o₁ o₂ t t₁ t₂ : List ℕ} (o₃ : List ℕ) (b : Bin) → Kept q p e o o₁ t t₁ → Kept s q f o₁ o₂ t₁ t₂ → {k : ℕ} → k ≡ binKind b → s .rows < length o₂ / rowWidth
     → RowAnswer a s (k, 0, 0) (s .rows - p .rows + 1) o₂ o₃ → KeptAnswer a p (bin b e f) o o₃ t t₂
 bin-answer Full o₃ b w v k r g = g r
 bin-answer (Done a) o₃ b w v {k = h} k r g = kept-bin w v b (h, 0, 0) _ (rw k) (omega (arith, w .rows, v .rows)) g

@@ -5,6 +5,7 @@ use mathlib.Core.List.{List}
 use Prim.Native.Nat.{ℕ, _+_, _/_, _≤_, _<_}
 use lib.ListN.{length}
 use lib.Dec.{eqb}
+use Rattle.grammar.specs.Numbers.{rowWidth, kStr, kChoice, kOpt}
 use Rattle.grammar.specs.Basic.{Bytes}
 use Rattle.grammar.specs.Tree.{Expr, E, Bin, Opt, Seq, Choice, un, bin, binKind, size}
 use Rattle.grammar.specs.Rows.{Span}
@@ -64,11 +65,11 @@ pub record BaseTold (two : Bool) (w : List ℕ) (b l : ℕ) : Type 0 where
 
 -- the rows over two trees by a word: a Seq of the first and an Opt of the second, a Choice, a Seq
 unfoldable pub overOf : ℕ → E → E → E
-overOf k x y = cond (eqb k 10) (bin Seq x (un Opt y)) (cond (eqb k 9) (bin Choice x y) (bin Seq x y))
+overOf k x y = cond (eqb k kOpt) (bin Seq x (un Opt y)) (cond (eqb k kChoice) (bin Choice x y) (bin Seq x y))
 
 -- or, by 0, the first alone
 unfoldable pub planned : ℕ → E → E → E
-planned k x y = cond (eqb k 0) x (overOf k x y)
+planned k x y = cond (eqb k kStr) x (overOf k x y)
 
 -- f takes no more rows and no more text than e
 pub record Within (f e : E) : Type 0 where
@@ -93,4 +94,4 @@ pub record PartOf (f e : E) : Type 0 where
 
 -- whatever trees stand from p to q and from q to s, the rows by k stand over them, where there is room
 abbrev pub OverAnswer : Wrote → ℕ → (p q s : Place) → (o₂ o₃ : List ℕ) → Type 0
-OverAnswer a k p q s o₂ o₃ = (x y : E) (o o₁ t t₁ t₂ : List ℕ) → Kept q p x o o₁ t t₁ → Kept s q y o₁ o₂ t₁ t₂ → p .rows + size (overOf k x y) ≤ length o₂ / 4 → KeptAnswer a p (overOf k x y) o o₃ t t₂
+OverAnswer a k p q s o₂ o₃ = (x y : E) (o o₁ t t₁ t₂ : List ℕ) → Kept q p x o o₁ t t₁ → Kept s q y o₁ o₂ t₁ t₂ → p .rows + size (overOf k x y) ≤ length o₂ / rowWidth → KeptAnswer a p (overOf k x y) o o₃ t t₂

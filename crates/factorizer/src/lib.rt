@@ -2,6 +2,7 @@
 ghost use mathlib.Core.Path.{_≡_};
 ghost use mathlib.Core.Bool.{Bool, false};
 ghost use mathlib.Core.Option.{none};
+ghost use Rattle.grammar.specs.Numbers.{rowWidth, kChoice};
 ghost use Rattle.grammar.specs.Basic.{Bytes};
 ghost use Prim.Native.Nat.{ℕ, _+_, _-_, _/_, _^_, _≤_, _<_};
 ghost use lib.ListN.{length};
@@ -16,8 +17,14 @@ ghost use Rattle.chains.specs.Runs.{ups, Raisable, RaisedAnswer};
 ghost use Rattle.factorizer.specs.Factors.{factored, beneath};
 ghost use Rattle.factorizer.specs.Cases.{SidesTold, CaseTold};
 ghost use Rattle.factorizer.specs.Plans.{TreeAt, TreeStands, TreeReady, PartsTold, BaseTold, PartOf, PlanTold, OverAnswer};
-use rows::Lookup;
-use rows::Shape;
+use grammar::ATOMIC;
+use grammar::CHOICE;
+use grammar::COMPOUND_ATOMIC;
+use grammar::OPT;
+use grammar::PAIR;
+use grammar::ROW_WIDTH;
+use grammar::SEQ;
+use grammar::STR;
 use writing::Place;
 use writing::Wrote;
 
@@ -40,10 +47,10 @@ pub enum Case {
 pub fn tight_rule(rule: u32) -> bool
     ensures { λ r. ⌜ r ≡ isTight rule ⌝ }
 {
-    if rule == 2 {
+    if rule == ATOMIC {
         return true;
     }
-    rule == 3
+    rule == COMPOUND_ATOMIC
 }
 
 // Whether the row `root` is a Seq, and where its sides stand.
@@ -51,30 +58,13 @@ fn split(rows: &[u32], root: usize) -> Sides
     requires { ⌜ Stands (now rows) root ⌝ }
     ensures { λ a. ⌜ ((t : Bytes) (x : Expr Span) → At (now (rows .entry)) root x → SidesTold a (now (rows .entry)) t x) ⌝ }
 {
-    let Lookup::Row {
-        kind: k,
-        x: _,
-        y: _,
-        size: _,
-    } = rows::row_at(rows, root)
-    else {
-        return Sides::Other;
-    };
-    if k != 8 {
+    if rows[root * ROW_WIDTH] != SEQ {
         return Sides::Other;
     }
-    let tail = root - 1;
-    let Lookup::Row {
-        kind: _,
-        x: _,
-        y: _,
-        size: n,
-    } = rows::row_at(rows, tail)
-    else {
-        return Sides::Other;
-    };
-    let head = tail - rows::wide(n);
-    Sides::Split { head, tail }
+    Sides::Split {
+        head: rows::left_of(rows, root),
+        tail: root - 1,
+    }
 }
 
 // Which case the Choice of the subtrees of rows l and r is: the first that fits.
@@ -120,35 +110,17 @@ fn case_of(rows: &[u32], text: &[u8], l: usize, r: usize, tight: bool) -> Case
 }
 
 // Whether the Choice of row i is one of the three cases.
-fn fires(rows: &[u32], text: &[u8], i: usize, tight: bool) -> bool
+pub fn fires(rows: &[u32], text: &[u8], i: usize, tight: bool) -> bool
     requires { ⌜ Inside (now rows) (length (now text)) ⌝ }
     requires { ⌜ Stands (now rows) i ⌝ }
-    requires { ⌜ kindAt (now rows) i ≡ 9 ⌝ }
+    requires { ⌜ kindAt (now rows) i ≡ kChoice ⌝ }
     ensures { λ b. ⌜ (b ≡ false → (x : Expr Span) → At (now (rows .entry)) i x → factor? tight (resolve (now (text .entry)) x) ≡ none) ⌝ }
 {
+    let left = rows::left_of(rows, i);
     let right = i - 1;
-    let Lookup::Row {
-        kind: second,
-        x: _,
-        y: _,
-        size: n,
-    } = rows::row_at(rows, right)
-    else {
-        return true;
-    };
-    let left = right - rows::wide(n);
-    let Lookup::Row {
-        kind: first,
-        x: _,
-        y: _,
-        size: _,
-    } = rows::row_at(rows, left)
-    else {
-        return true;
-    };
     // most have no Seq on either side, and need no call
-    if first != 8 {
-        if second != 8 {
+    if rows[left * ROW_WIDTH] != SEQ {
+        if rows[right * ROW_WIDTH] != SEQ {
             return false;
         }
     }
@@ -158,33 +130,6 @@ fn fires(rows: &[u32], text: &[u8], i: usize, tight: bool) -> bool
         Case::First => true,
         Case::Plain => false,
     }
-}
-
-// Whether some Choice of the subtree of row `root` is one of the three cases.
-pub fn any_fires(rows: &[u32], text: &[u8], root: usize, tight: bool) -> bool
-    requires { ⌜ Inside (now rows) (length (now text)) ⌝ }
-    requires { ⌜ Stands (now rows) root ⌝ }
-    ensures { λ b. ⌜ (b ≡ false → (r : Expr Span) → At (now (rows .entry)) root r → factored tight (resolve (now (text .entry)) r) ≡ resolve (now (text .entry)) r) ⌝ }
-{
-    let Lookup::Row {
-        kind: _,
-        x: _,
-        y: _,
-        size,
-    } = rows::row_at(rows, root)
-    else {
-        return true;
-    };
-    let mut i = root + 1 - rows::wide(size);
-    while i <= root {
-        if rows[i * 4] == 9 {
-            if fires(rows, text, i, tight) {
-                return true;
-            }
-        }
-        i += 1;
-    }
-    false
 }
 
 // Ends a node whose children stand from p to q.
@@ -201,6 +146,9 @@ pub enum Parts {
     Fewer,
 }
 
+// In place of a plan's kind: the first tree alone is written.
+const ALONE: u32 = 0;
+
 // What is written for a tree: the factored subtree of row x, then that of row y or, where `two`, of the Choice of rows y and z,
 // and the rows over them: by `kind` 8 a Seq, 9 a Choice, 10 an Opt over the second and a Seq; by 0 the first alone is written.
 pub struct Plan {
@@ -216,30 +164,15 @@ fn sides_of(rows: &[u32], i: usize) -> Parts
     requires { ⌜ Stands (now rows) i ⌝ }
     ensures { λ a. ⌜ ((e : Expr Span) → At (now (rows .entry)) i e → PartsTold a (now (rows .entry)) e) ⌝ }
 {
-    let Lookup::Row {
-        kind,
-        x: _,
-        y: _,
-        size: _,
-    } = rows::row_at(rows, i)
-    else {
+    let kind = rows[i * ROW_WIDTH];
+    // Seq or Choice
+    if kind / 2 != PAIR {
         return Parts::Fewer;
-    };
-    if let Shape::Two = rows::shape_of(kind) {
-        let r = i - 1;
-        let Lookup::Row {
-            kind: _,
-            x: _,
-            y: _,
-            size: n,
-        } = rows::row_at(rows, r)
-        else {
-            return Parts::Fewer;
-        };
-        let l = r - rows::wide(n);
-        Parts::Two { kind, l, r }
-    } else {
-        Parts::Fewer
+    }
+    Parts::Two {
+        kind,
+        l: rows::left_of(rows, i),
+        r: i - 1,
     }
 }
 
@@ -249,7 +182,7 @@ fn tree_sides(rows: &[u32], two: bool, l: usize, r: usize) -> Parts
     ensures { λ a. ⌜ ((e : Expr Span) → TreeAt two (now (rows .entry)) l r e → PartsTold a (now (rows .entry)) e) ⌝ }
 {
     if two {
-        return Parts::Two { kind: 9, l, r };
+        return Parts::Two { kind: CHOICE, l, r };
     }
     sides_of(rows, l)
 }
@@ -266,7 +199,7 @@ fn untried(rows: &[u32], l: usize) -> Plan
             two: false,
             y: l,
             z: l,
-            kind: 0,
+            kind: ALONE,
         };
     };
     Plan {
@@ -285,7 +218,7 @@ fn plan_of(rows: &[u32], text: &[u8], kind: u32, l: usize, r: usize, tight: bool
     requires { ⌜ Stands (now rows) r ⌝ }
     ensures { λ a. ⌜ ((b : Bin) (x y : Expr Span) → kind ≡ binKind b → At (now (rows .entry)) l x → At (now (rows .entry)) r y → PlanTold a tight (now (rows .entry)) (now (text .entry)) (factored tight (resolve (now (text .entry)) (bin b x y))) (resolve (now (text .entry)) (bin b x y))) ⌝ }
 {
-    if kind != 9 {
+    if kind != CHOICE {
         return Plan {
             x: l,
             two: false,
@@ -300,14 +233,14 @@ fn plan_of(rows: &[u32], text: &[u8], kind: u32, l: usize, r: usize, tight: bool
             two: true,
             y: b,
             z: c,
-            kind: 8,
+            kind: SEQ,
         },
         Case::Tail { a, b } => Plan {
             x: a,
             two: false,
             y: b,
             z: b,
-            kind: 10,
+            kind: OPT,
         },
         Case::First => untried(rows, l),
         Case::Plain => Plan {
@@ -315,27 +248,27 @@ fn plan_of(rows: &[u32], text: &[u8], kind: u32, l: usize, r: usize, tight: bool
             two: false,
             y: r,
             z: r,
-            kind: 9,
+            kind: CHOICE,
         },
     }
 }
 
 // Writes the rows by `kind` over what stands from p to q and from q to s.
 fn over(out: &mut [u32], p: Place, q: Place, s: Place, kind: u32) -> Wrote
-    requires { ⌜ (p .rows ≤ q .rows) × ((q .rows ≤ s .rows) × (s .rows ≤ length (now out) / 4)) ⌝ }
+    requires { ⌜ (p .rows ≤ q .rows) × ((q .rows ≤ s .rows) × (s .rows ≤ length (now out) / rowWidth)) ⌝ }
     requires { ⌜ length (now out) < 2 ^ 32 ⌝ }
     ensures { λ a. ⌜ OverAnswer a kind p q s (now (out .entry)) (now (out .exit)) ⌝ }
 {
-    if kind == 10 {
-        let Wrote::Done(e) = end(out, q, s, 10, 0, 0) else {
+    if kind == OPT {
+        let Wrote::Done(e) = end(out, q, s, OPT, 0, 0) else {
             return Wrote::Full;
         };
-        return end(out, p, e, 8, 0, 0);
+        return end(out, p, e, SEQ, 0, 0);
     }
-    if kind == 9 {
-        return end(out, p, s, 9, 0, 0);
+    if kind == CHOICE {
+        return end(out, p, s, CHOICE, 0, 0);
     }
-    end(out, p, s, 8, 0, 0)
+    end(out, p, s, SEQ, 0, 0)
 }
 
 // The row below the run at the top of a tree, that of row l or a Choice of two.
@@ -394,7 +327,7 @@ fn at(
     let Wrote::Done(q) = at(rows, text, false, plan.x, plan.x, tight, out, lits, p) else {
         return Wrote::Full;
     };
-    if plan.kind == 0 {
+    if plan.kind == STR {
         return run_over(rows, two, base, l, out, p, q);
     }
     let Wrote::Done(s) = at(rows, text, plan.two, plan.y, plan.z, tight, out, lits, q) else {
@@ -406,7 +339,7 @@ fn at(
     run_over(rows, two, base, l, out, p, e)
 }
 
-// Writes the factored subtree of row `root` of a rule of that type at p, its literals packed: in most no case fits, and a copy is cheaper than a walk.
+// Writes the factored subtree of row `root` of a rule of that type at p, its literals packed.
 pub fn factor(
     rows: &[u32],
     text: &[u8],
@@ -422,8 +355,5 @@ pub fn factor(
     ensures { λ a. ⌜ ((r : Expr Span) → At (now (rows .entry)) root r → KeptAnswer a p (factor rule (resolve (now (text .entry)) r)) (now (out .entry)) (now (out .exit)) (now (lits .entry)) (now (lits .exit))) ⌝ }
 {
     let tight = tight_rule(rule);
-    if !any_fires(rows, text, root, tight) {
-        return writing::keep(rows, text, root, out, lits, p);
-    }
     at(rows, text, false, root, root, tight, out, lits, p)
 }

@@ -9,10 +9,11 @@ use native.Mathlib.Omega.{arith}
 use lib.ListN.{length, take, drop, length-append, take-append-drop}
 use lib.Seq.{take-at, drop-at}
 use lib.Dec.{eqb, leb}
+use Rattle.grammar.specs.Numbers.{ruleWidth, rowWidth}
 use Rattle.grammar.specs.Basic.{_>>=_, test}
 use Rattle.grammar.specs.Tree.{Bin, Choice, Expr, Fixed, Head, Ident, Insens, Lit, NegPred, Opt, PeekFrom, PeekSlice, PosPred, Push, Range, Rep, RepExact, RepMax, RepMin, RepMinMax, RepOnce, RestoreOnErr, Seq, Str, Un, asStr, bin, binKind, fixed, fixedHead, lit, litKind, size, skip, un, unHead}
 use Rattle.grammar.specs.Rows.{Span, flat, row, strRows}
-use Rattle.grammar.specs.Table.{Table, rowWords, ruleWords}
+use Rattle.grammar.specs.Table.{Table, rowWords, ruleWords, NonAtomic}
 use Rattle.grammar.specs.Reading.{Kinds, Stack, allFixed, allUn, binOf, build, fixedOf, litOf, noWords, oneTree, popBin, popStrs, popUn, readRow, readRows, readTable, readTree, sameHead, sizeIs, unOf, withRule}
 use Rattle.grammar.proofs.Logic.{alt-case, and-left, and-right, bind-case, eqb-eq, eqb-self, first-passes, none-some, some-eq, test-true}
 
@@ -279,11 +280,11 @@ module _ (ok : Kinds) where
 
 -- Tables
 
-strRows-length : (ss : List Span) → length (strRows ss) ≡ 4 * length ss
+strRows-length : (ss : List Span) → length (strRows ss) ≡ rowWidth * length ss
 strRows-length [] = refl
 strRows-length (s ∷ ss) = omega (arith, strRows-length ss)
 
-pub flat-length : (e : Expr Span) → length (flat e) ≡ 4 * size e
+pub flat-length : (e : Expr Span) → length (flat e) ≡ rowWidth * size e
 flat-length (lit k s) = refl
 flat-length (fixed f) = refl
 flat-length (skip ss) = simp length-append (omega (arith, strRows-length ss))
@@ -293,7 +294,7 @@ flat-length (bin b l r) = simp length-append (omega (arith, flat-length l, flat-
 -- types and kinds are allowed
 abbrev pub AllowedTable : {L : Type 0} → Kinds → Table L → Type 0
 AllowedTable ok [] = Unit {0}
-AllowedTable ok (r ∷ rs) = (leb (r .type) 4 ≡ true) × Allowed ok (r .body) × AllowedTable ok rs
+AllowedTable ok (r ∷ rs) = (leb (r .type) NonAtomic ≡ true) × Allowed ok (r .body) × AllowedTable ok rs
 
 rest-none : (ws : List ℕ) → noWords ws ≡ true → ws ≡ []
 rest-none [] h = refl
@@ -310,14 +311,14 @@ module _ (ok : Kinds) where
   unfolding readTable
   table-back [] p = refl
   table-back (r ∷ rs) p =
-      let n : length (flat (r .body)) ≡ 4 * size (r .body) = flat-length (r .body) in
-      let a : readTree ok (take (4 * size (r .body)) (flat (r .body) ++ rowWords rs)) ≡ some (r .body) =
-      ap (readTree ok) (take-at (flat (r .body)) (rowWords rs) (4 * size (r .body)) n) ∙ tree-back ok (r .body) (p .1) in
-      let b : readTable ok (ruleWords rs) (drop (4 * size (r .body)) (flat (r .body) ++ rowWords rs)) ≡ some rs =
-      ap (readTable ok (ruleWords rs)) (drop-at (flat (r .body)) (rowWords rs) (4 * size (r .body)) n) ∙ table-back rs (p .2) in
+      let n : length (flat (r .body)) ≡ rowWidth * size (r .body) = flat-length (r .body) in
+      let a : readTree ok (take (rowWidth * size (r .body)) (flat (r .body) ++ rowWords rs)) ≡ some (r .body) =
+      ap (readTree ok) (take-at (flat (r .body)) (rowWords rs) (rowWidth * size (r .body)) n) ∙ tree-back ok (r .body) (p .1) in
+      let b : readTable ok (ruleWords rs) (drop (rowWidth * size (r .body)) (flat (r .body) ++ rowWords rs)) ≡ some rs =
+      ap (readTable ok (ruleWords rs)) (drop-at (flat (r .body)) (rowWords rs) (rowWidth * size (r .body)) n) ∙ table-back rs (p .2) in
       ap₂ (withRule (r .name) (r .type) (size (r .body))) a b ∙ rule-back (p .0)
     where
-      rule-back : leb (r .type) 4 ≡ true → withRule (r .name) (r .type) (size (r .body)) (some (r .body)) (some rs) ≡ some (r ∷ rs)
+      rule-back : leb (r .type) NonAtomic ≡ true → withRule (r .name) (r .type) (size (r .body)) (some (r .body)) (some rs) ≡ some (r ∷ rs)
       rule-back h = rw (h, eqb-self (size (r .body)))
 
   pub table-is : (rules rows : List ℕ) (t : Table Span) → readTable ok rules rows ≡ some t → TableOf ok rules rows t
@@ -327,17 +328,17 @@ module _ (ok : Kinds) where
   table-is (o ∷ l ∷ []) rows t h = none-some h
   table-is (o ∷ l ∷ y ∷ []) rows t h = none-some h
   table-is (o ∷ l ∷ y ∷ n ∷ rules) rows t h =
-      bind-case (test (leb y 4)) _ t h λ v f₀ g₀.
-      bind-case (readTree ok (take (4 * n) rows)) _ t g₀ λ e f₁ g₁.
+      bind-case (test (leb y NonAtomic)) _ t h λ v f₀ g₀.
+      bind-case (readTree ok (take (rowWidth * n) rows)) _ t g₀ λ e f₁ g₁.
       bind-case (test (eqb (size e) n)) _ t g₁ λ u f₂ g₂.
-      bind-case (readTable ok rules (drop (4 * n) rows)) _ t g₂ λ t′ f₃ g₃.
+      bind-case (readTable ok rules (drop (rowWidth * n) rows)) _ t g₂ λ t′ f₃ g₃.
       let m : size e ≡ n = eqb-eq (size e) n (test-true (eqb (size e) n) u f₂) in
-      let ih : TableOf ok rules (drop (4 * n) rows) t′ = table-is rules (drop (4 * n) rows) t′ f₃ in
+      let ih : TableOf ok rules (drop (rowWidth * n) rows) t′ = table-is rules (drop (rowWidth * n) rows) t′ f₃ in
       subst (TableOf ok (o ∷ l ∷ y ∷ n ∷ rules) rows) (some-eq _ _ g₃)
       (record {
         rules = ap₂ (λ (k : ℕ) (q : List ℕ). o ∷ l ∷ y ∷ k ∷ q) m (ih .rules);
-        rows = ap₂ _++_ (tree-is ok (take (4 * n) rows) e f₁) (ih .rows) ∙ take-append-drop (4 * n) rows;
-        allowed = (test-true (leb y 4) v f₀, tree-allowed ok (take (4 * n) rows) e f₁, ih .allowed);
+        rows = ap₂ _++_ (tree-is ok (take (rowWidth * n) rows) e f₁) (ih .rows) ∙ take-append-drop (rowWidth * n) rows;
+        allowed = (test-true (leb y NonAtomic) v f₀, tree-allowed ok (take (rowWidth * n) rows) e f₁, ih .allowed);
       })
 
   -- REFUSAL 3 IS EXACT: words are read as a table exactly when they are that table's words

@@ -1,5 +1,6 @@
 -- Document 01 as definitions, in its order. A reader who knows it should read these files from top to bottom.
 pub mod Basic
+pub mod Numbers
 pub mod Tree
 pub mod Rows
 pub mod Text

@@ -5,6 +5,7 @@ use mathlib.Core.Option.{Option, none, some}
 use Prim.Native.Nat.{ℕ}
 use lib.ListN.{length, drop, replicate}
 use Rattle.grammar.specs.Basic.{Bytes, any}
+use Rattle.grammar.specs.Numbers.{refusedArea, refusedSize, refusedShape, refusedText, refusedNames, refusedCount, refusedCycle, refusedFull, reportWidth}
 use Rattle.grammar.specs.Rows.{Span}
 use Rattle.grammar.specs.Table.{Table, Words, rowCount, tableText, wordsOf, resolveTable}
 use Rattle.grammar.specs.Reading.{readTable, inputKinds}
@@ -46,28 +47,28 @@ refuseIf b n r = cond b (refused n) r
 -- 8, "in the input or after some step", and success
 unfoldable pub finish : List (Table Bytes) → Result
 unfolding tooLarge
-finish ts = refuseIf (any tooLarge ts) 8 (finished (pairs ts) (lastOf ts))
+finish ts = refuseIf (any tooLarge ts) refusedFull (finished (pairs ts) (lastOf ts))
 
 -- 5 to 7, then the rest
 unfoldable pub ofTable : Table Bytes → Result
 unfolding badNames zeroCounts meets stages finish
-ofTable t = refuseIf (badNames t) 5 (refuseIf (zeroCounts t) 6 (refuseIf (meets t) 7 (finish (stages t))))
+ofTable t = refuseIf (badNames t) refusedNames (refuseIf (zeroCounts t) refusedCount (refuseIf (meets t) refusedCycle (finish (stages t))))
 
 -- 3 and 4, then the rest
 unfoldable pub ofRead : Bytes → Option (Table Span) → Result
 unfolding badText ofTable
-ofRead text none = refused 3
-ofRead text (some t) = refuseIf (badText text t) 4 (ofTable (resolveTable text t))
+ofRead text none = refused refusedShape
+ofRead text (some t) = refuseIf (badText text t) refusedText (ofTable (resolveTable text t))
 
 -- 2, then the rest
 unfoldable pub ofWords : Words → Result
 unfolding readTable ofRead
-ofWords w = refuseIf (badCounts w) 2 (ofRead (w .text) (readTable inputKinds (w .rules) (w .rows)))
+ofWords w = refuseIf (badCounts w) refusedSize (ofRead (w .text) (readTable inputKinds (w .rules) (w .rows)))
 
 -- 1, then the rest. `in′` is the input, `out` the output areas as they are lent, `a` and `b` the work tables
 unfoldable pub result : (in′ out a b : Words) (marks : List ℕ) → Result
 unfolding ofWords
-result in′ out a b marks = refuseIf (short out || (short a || (short b || shortMarks marks))) 1 (ofWords in′)
+result in′ out a b marks = refuseIf (short out || (short a || (short b || shortMarks marks))) refusedArea (ofWords in′)
 
 -- What the caller gets: number, counts of rules, rows and text bytes, report; and the output areas afterwards
 pub record Answer : Type 0 where
@@ -92,7 +93,7 @@ overWords new old =
 
 -- "a refusal returns its number, three zero counts and a zero report", and changes no output area
 abbrev pub answer : Words → Result → Answer
-answer out (refused n) = record { number = n; rules = 0; rows = 0; text = 0; report = replicate 14 0; out = out }
+answer out (refused n) = record { number = n; rules = 0; rows = 0; text = 0; report = replicate reportWidth 0; out = out }
 answer out (finished report t) =
     record {
       number = 0;

@@ -6,9 +6,10 @@ use Prim.Native.Nat.{ℕ, zero, suc, _*_}
 use lib.ListN.{take, drop}
 use lib.Dec.{eqb, leb}
 use Rattle.grammar.specs.Basic.{_>>=_, test, _<|>_, firstWith}
+use Rattle.grammar.specs.Numbers.{rowWidth, kSkip, kPush}
 use Rattle.grammar.specs.Tree.{Head, Lit, Str, Insens, Ident, Fixed, Range, PeekSlice, PeekFrom, Un, PosPred, NegPred, Opt, Rep, RepOnce, Push, RestoreOnErr, RepExact, RepMin, RepMax, RepMinMax, Bin, Seq, Choice, Expr, lit, fixed, skip, un, bin, litKind, fixedHead, unHead, binKind, size, asStr}
 use Rattle.grammar.specs.Rows.{Span}
-use Rattle.grammar.specs.Table.{Rule, Table}
+use Rattle.grammar.specs.Table.{Rule, Table, NonAtomic}
 
 -- A head is read as the one of the candidates that has it, so unused words are 0
 
@@ -60,7 +61,7 @@ build h st =
     <|> (fixedOf h >>= λ f. some (fixed f ∷ st))
     <|> (unOf h >>= λ u. popUn u st)
     <|> (binOf h >>= λ b. popBin b st)
-    <|> (test (sameHead (17, h .1, 0) h) >>= λ _. popStrs (h .1) [] st)
+    <|> (test (sameHead (kSkip, h .1, 0) h) >>= λ _. popStrs (h .1) [] st)
 
 -- the size word is the size of the tree that the row ends
 abbrev pub sizeIs : ℕ → Stack → Option Stack
@@ -98,7 +99,7 @@ noWords (w ∷ ws) = false
 -- a rule of four words, its tree, and the rules after it
 abbrev pub withRule : Span → ℕ → ℕ → Option (Expr Span) → Option (Table Span) → Option (Table Span)
 withRule name type n tree rules = do
-  _ ← test (leb type 4)
+  _ ← test (leb type NonAtomic)
   e ← tree
   _ ← test (eqb (size e) n)
   rs ← rules
@@ -112,8 +113,8 @@ readTable ok (o ∷ []) rows = none
 readTable ok (o ∷ l ∷ []) rows = none
 readTable ok (o ∷ l ∷ y ∷ []) rows = none
 readTable ok (o ∷ l ∷ y ∷ n ∷ rules) rows =
-    withRule (o, l) y n (readTree ok (take (4 * n) rows)) (readTable ok rules (drop (4 * n) rows))
+    withRule (o, l) y n (readTree ok (take (rowWidth * n) rows)) (readTable ok rules (drop (rowWidth * n) rows))
 
 -- of an input: "a kind above 18" is refused
 abbrev pub inputKinds : Kinds
-inputKinds k = leb k 18
+inputKinds k = leb k kPush

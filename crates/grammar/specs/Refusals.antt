@@ -6,6 +6,7 @@ use Prim.Native.Nat.{ℕ, _+_, _*_, _%_}
 use lib.ListN.{length}
 use lib.Dec.{eqb, ltb}
 use Rattle.grammar.specs.Basic.{Bytes, any, sameBytes, member}
+use Rattle.grammar.specs.Numbers.{ruleWidth, rowWidth, markWidth, lastAscii}
 use Rattle.grammar.specs.Tree.{Fixed, Range, PeekSlice, PeekFrom, Un, PosPred, NegPred, Opt, Rep, RepOnce, Push, RestoreOnErr, RepExact, RepMin, RepMax, RepMinMax, Expr, E, lit, fixed, skip, un, bin, lits, anyNode}
 use Rattle.grammar.specs.Rows.{Span}
 use Rattle.grammar.specs.Text.{bytesAt}
@@ -26,24 +27,24 @@ maxText = 65536
 
 -- 1: "an output or work area is below full size"
 abbrev pub short : Words → Bool
-short a = ltb (length (a .rules)) (4 * maxRules) || (ltb (length (a .rows)) (4 * maxRows) || ltb (length (a .text)) maxText)
+short a = ltb (length (a .rules)) (ruleWidth * maxRules) || (ltb (length (a .rows)) (rowWidth * maxRows) || ltb (length (a .text)) maxText)
 
 abbrev pub shortMarks : List ℕ → Bool
-shortMarks marks = ltb (length marks) (4 * maxRules)
+shortMarks marks = ltb (length marks) (markWidth * maxRules)
 
 -- 2: "a word count isn't a multiple of four, or the input is above full size"
 abbrev pub badCounts : Words → Bool
 badCounts w =
-    not (eqb (length (w .rules) % 4) 0)
-    || (not (eqb (length (w .rows) % 4) 0)
-    || (ltb (4 * maxRules) (length (w .rules)) || (ltb (4 * maxRows) (length (w .rows)) || ltb maxText (length (w .text)))))
+    not (eqb (length (w .rules) % ruleWidth) 0)
+    || (not (eqb (length (w .rows) % rowWidth) 0)
+    || (ltb (ruleWidth * maxRules) (length (w .rules)) || (ltb (rowWidth * maxRows) (length (w .rows)) || ltb maxText (length (w .text)))))
 
 -- 4: "offset plus length, as whole numbers, is above the text's length, or with a byte above 127; a Range word above 127"
 abbrev pub badSpan : Bytes → Span → Bool
-badSpan text s = ltb (length text) (s .0 + s .1) || any (ltb 127) (bytesAt text s)
+badSpan text s = ltb (length text) (s .0 + s .1) || any (ltb lastAscii) (bytesAt text s)
 
 abbrev pub badFixed : Fixed → Bool
-badFixed (Range a b) = ltb 127 a || ltb 127 b
+badFixed (Range a b) = ltb lastAscii a || ltb lastAscii b
 badFixed (PeekFrom a) = false
 badFixed (PeekSlice a b) = false
 

@@ -6,6 +6,7 @@ use mathlib.Core.Option.{Option, none, some}
 use Prim.Native.Nat.{ℕ, zero, suc}
 use lib.ListN.{length}
 use Rattle.grammar.specs.Basic.{Bytes, sameBytes, member}
+use Rattle.grammar.specs.Numbers.{kPush, kRestoreOnErr}
 use Rattle.grammar.specs.Tree.{Lit, Str, Insens, Ident, Un, Push, Bin, E, lit, fixed, skip, un, bin, isUn}
 use Rattle.grammar.specs.Table.{Table, find}
 
@@ -24,7 +25,7 @@ pub data Reaches (t : Table Bytes) : E → Type 0 where
   at-push : {e : E} → Reaches t (un Push e)
   at-name : {x : Bytes} → member x stackNames ≡ true → Reaches t (lit Ident x)
   through : {x : Bytes} {e : E} → find t x ≡ some e → Reaches t e → Reaches t (lit Ident x)
-  down : {u : Un} {e : E} → isUn 19 u ≡ false → Reaches t e → Reaches t (un u e)
+  down : {u : Un} {e : E} → isUn kRestoreOnErr u ≡ false → Reaches t e → Reaches t (un u e)
   left : {b : Bin} {l r : E} → Reaches t l → Reaches t (bin b l r)
   right : {b : Bin} {l r : E} → Reaches t r → Reaches t (bin b l r)
 
@@ -38,7 +39,7 @@ abbrev pub changesIn : (Bytes → Bool) → E → Bool
 changesIn look (lit k s) = changesLit look k s
 changesIn look (fixed f) = false
 changesIn look (skip ss) = false
-changesIn look (un u e) = isUn 18 u || (not (isUn 19 u) && changesIn look e)
+changesIn look (un u e) = isUn kPush u || (not (isUn kRestoreOnErr u) && changesIn look e)
 changesIn look (bin b l r) = changesIn look l || changesIn look r
 
 abbrev pub changesFound : Option E → (E → Bool) → Bool

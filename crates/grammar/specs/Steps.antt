@@ -7,6 +7,7 @@ use Prim.Native.Nat.{ℕ, zero, suc, _-_, min}
 use lib.ListN.{replicate}
 use lib.Dec.{eqb}
 use Rattle.grammar.specs.Basic.{Bytes, _>>=_, test, _<|>_, orElse}
+use Rattle.grammar.specs.Numbers.{kOpt, kRep}
 use Rattle.grammar.specs.Tree.{Lit, Str, Insens, Un, PosPred, NegPred, Opt, Rep, RepOnce, Push, RestoreOnErr, RepExact, RepMin, RepMax, RepMinMax, Bin, Seq, Choice, E, lit, fixed, skip, un, bin, isUn, size, asStr, asInsens, asRep, asSeq, asChoice, same}
 use Rattle.grammar.specs.Table.{Rule, Table, Atomic, CompoundAtomic}
 use Rattle.grammar.specs.Lists.{loopOver, skipList, asStrings}
@@ -178,7 +179,7 @@ unfolding guarded
 restoreAt t (lit k s) = lit k s
 restoreAt t (fixed f) = fixed f
 restoreAt t (skip ss) = skip ss
-restoreAt t (un u e) = un u (cond (isUn 10 u || isUn 11 u) (guarded t e) e)
+restoreAt t (un u e) = un u (cond (isUn kOpt u || isUn kRep u) (guarded t e) e)
 restoreAt t (bin Seq l r) = bin Seq l r
 restoreAt t (bin Choice l r) = bin Choice (guarded t l) (guarded t r)
 

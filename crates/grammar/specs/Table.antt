@@ -24,6 +24,9 @@ Atomic = 2
 abbrev pub CompoundAtomic : ℕ
 CompoundAtomic = 3
 
+abbrev pub NonAtomic : ℕ
+NonAtomic = 4
+
 abbrev pub Table : Type 0 → Type 0
 Table L = List (Rule L)
 
@@ -34,9 +37,12 @@ pub record Words : Type 0 where
   pub text : Bytes
 
 -- "a rule is four words: name offset, name length, type, number of rows"
+abbrev pub ruleHead : Span → (type rows : ℕ) → List ℕ
+ruleHead s y n = s .0 ∷ s .1 ∷ y ∷ n ∷ []
+
 abbrev pub ruleWords : Table Span → List ℕ
 ruleWords [] = []
-ruleWords (r ∷ rs) = r .name .0 ∷ r .name .1 ∷ r .type ∷ size (r .body) ∷ ruleWords rs
+ruleWords (r ∷ rs) = ruleHead (r .name) (r .type) (size (r .body)) ++ ruleWords rs
 
 -- "rules' rows follow each other in rule order"
 abbrev pub rowWords : Table Span → List ℕ

@@ -8,6 +8,7 @@ use native.Mathlib.Decide.{ℕ-discrete}
 use lib.ListN.{length}
 use lib.Dec.{eqb}
 use Rattle.grammar.specs.Basic.{Bytes, holds, list-discrete, bytes-discrete}
+use Rattle.grammar.specs.Numbers.{kStr, kInsens, kRange, kIdent, kPeekFrom, kPeekSlice, kPosPred, kNegPred, kSeq, kChoice, kOpt, kRep, kRepOnce, kRepExact, kRepMin, kRepMax, kRepMinMax, kPush, kRestoreOnErr}
 
 -- kinds 0, 1, 3: a literal
 pub data Lit : Type 0 where
@@ -50,32 +51,32 @@ abbrev pub Head : Type 0
 Head = ℕ × ℕ × ℕ
 
 abbrev pub litKind : Lit → ℕ
-litKind Str = 0
-litKind Insens = 1
-litKind Ident = 3
+litKind Str = kStr
+litKind Insens = kInsens
+litKind Ident = kIdent
 
 -- unused x and y are 0
 abbrev pub fixedHead : Fixed → Head
-fixedHead (Range a b) = (2, a, b)
-fixedHead (PeekFrom a) = (4, a, 0)
-fixedHead (PeekSlice a b) = (5, a, b)
+fixedHead (Range a b) = (kRange, a, b)
+fixedHead (PeekFrom a) = (kPeekFrom, a, 0)
+fixedHead (PeekSlice a b) = (kPeekSlice, a, b)
 
 abbrev pub unHead : Un → Head
-unHead PosPred = (6, 0, 0)
-unHead NegPred = (7, 0, 0)
-unHead Opt = (10, 0, 0)
-unHead Rep = (11, 0, 0)
-unHead RepOnce = (12, 0, 0)
-unHead (RepExact n) = (13, n, 0)
-unHead (RepMin n) = (14, n, 0)
-unHead (RepMax n) = (15, n, 0)
-unHead (RepMinMax m n) = (16, m, n)
-unHead Push = (18, 0, 0)
-unHead RestoreOnErr = (19, 0, 0)
+unHead PosPred = (kPosPred, 0, 0)
+unHead NegPred = (kNegPred, 0, 0)
+unHead Opt = (kOpt, 0, 0)
+unHead Rep = (kRep, 0, 0)
+unHead RepOnce = (kRepOnce, 0, 0)
+unHead (RepExact n) = (kRepExact, n, 0)
+unHead (RepMin n) = (kRepMin, n, 0)
+unHead (RepMax n) = (kRepMax, n, 0)
+unHead (RepMinMax m n) = (kRepMinMax, m, n)
+unHead Push = (kPush, 0, 0)
+unHead RestoreOnErr = (kRestoreOnErr, 0, 0)
 
 abbrev pub binKind : Bin → ℕ
-binKind Seq = 8
-binKind Choice = 9
+binKind Seq = kSeq
+binKind Choice = kChoice
 
 abbrev pub isUn : ℕ → Un → Bool
 isUn k u = eqb (unHead u .0) k
@@ -128,19 +129,19 @@ module _ {L : Type 0} where
   binAt k (bin b l r) = cond (eqb (binKind b) k) (some (l, r)) none
 
   abbrev pub asStr : Expr L → Option L
-  asStr e = litAt 0 e
+  asStr e = litAt kStr e
 
   abbrev pub asInsens : Expr L → Option L
-  asInsens e = litAt 1 e
+  asInsens e = litAt kInsens e
 
   abbrev pub asIdent : Expr L → Option L
-  asIdent e = litAt 3 e
+  asIdent e = litAt kIdent e
 
   abbrev pub asNegPred : Expr L → Option (Expr L)
-  asNegPred e = unAt 7 e
+  asNegPred e = unAt kNegPred e
 
   abbrev pub asRep : Expr L → Option (Expr L)
-  asRep e = unAt 11 e
+  asRep e = unAt kRep e
 
   abbrev pub asSeq : Expr L → Option (Expr L × Expr L)
   asSeq e = binAt 8 e

@@ -5,4 +5,4 @@ mod Looks
 mod Pairs
 mod Ends
 mod Walks
-mod Quiets
+pub mod Quiets

@@ -2,17 +2,17 @@
 use mathlib.Core.Path.{_≡_, refl, sym, ap, _∙_}
 use mathlib.Core.Bool.{Bool}
 use mathlib.Core.List.{List}
-use Prim.Native.Nat.{ℕ, _+_, _-_, _≤_}
+use Prim.Native.Nat.{ℕ, _-_, _≤_}
 use native.Mathlib.Omega.{arith}
 use Rattle.grammar.specs.Basic.{Bytes}
 use Rattle.grammar.specs.Tree.{E, Expr, Un, PosPred, NegPred, Opt, Rep, RepOnce, Push, RestoreOnErr, RepExact, RepMin, RepMax, RepMinMax, Seq, Head, un, bin, unHead, size, asRep, asSeq}
 use Rattle.grammar.specs.Rows.{Span}
 use Rattle.grammar.specs.Text.{resolve}
 use Rattle.grammar.proofs.Logic.{none-some}
-use Rattle.rows.specs.Rows.{At, Tells, shapeOf}
-use Rattle.rows.proofs.Laws.{Found}
-use Rattle.rows.proofs.Views.{as-one, as-two, two-is, one-none, two-none}
-use Rattle.rows.proofs.Cells.{un-shape, bin-shape, tells-iff}
+use Rattle.rows.specs.Rows.{kindAt, At, Tells, shapeOf}
+use Rattle.rows.proofs.Laws.{root, found-row}
+use Rattle.rows.proofs.Views.{as-one, one-none, two-none}
+use Rattle.rows.proofs.Cells.{un-shape, tells-iff}
 use Rattle.lister.specs.Loops.{Loops}
 
 rep-kind : (u : Un) → unHead u .0 ≡ 11 → u ≡ Rep
@@ -28,48 +28,35 @@ rep-kind (RepMin n) e = absurd (omega arith)
 rep-kind (RepMax n) e = absurd (omega arith)
 rep-kind (RepMinMax m n) e = absurd (omega arith)
 
--- a Rep row, and the Seq row before it
+-- a Rep row
 pub record RepOf (w : List ℕ) (i : ℕ) (l : Expr Span) : Type 0 where
   pub body : Expr Span
   pub is : l ≡ un Rep body
   pub at : At w (i - 1) body
+  pub least : 1 ≤ size body
   pub most : size body ≤ i
 
-pub record SeqOf (w : List ℕ) (i : ℕ) (e : Expr Span) : Type 0 where
-  pub left : Expr Span
-  pub right : Expr Span
-  pub is : e ≡ bin Seq left right
-  pub atLeft : At w (i - 1 - size right) left
-  pub atRight : At w (i - 1) right
-  pub least : 1 ≤ size left
-  pub most : size left + size right ≤ i
-
-module _ {w : List ℕ} {i k x y n : ℕ} {r : Expr Span} (f : Found w i k x y n) (a : At w i r) where
-  pub as-rep : k ≡ 11 → RepOf w i r
+module _ {w : List ℕ} {i : ℕ} {r : Expr Span} (a : At w i r) where
+  pub as-rep : kindAt w i ≡ 11 → RepOf w i r
   as-rep e =
-      let v = as-one f a (ap shapeOf e ∙ un-shape Rep) in
-      record { body = v .child; is = v .is ∙ rw (rep-kind (v .op) (sym (ap (λ (h : Head). h .0) (v .head)) ∙ e)); at = v .at; most = v .most }
-
-  pub as-seq : k ≡ 8 → SeqOf w i r
-  as-seq e =
-      let v = as-two f a (ap shapeOf e ∙ bin-shape Seq) in
-      record { left = v .left; right = v .right; is = two-is Seq v e; atLeft = v .atLeft; atRight = v .atRight; least = v .leastLeft; most = v .most }
+      let v = as-one (found-row w i (root a .inside)) a (ap shapeOf e ∙ un-shape Rep) in
+      record { body = v .child; is = v .is ∙ rw (rep-kind (v .op) (sym (ap (λ (h : Head). h .0) (v .head)) ∙ e)); at = v .at; least = v .least; most = v .most }
 
   -- where one of the two rows is missing, there is no loop
-  pub no-rep : (t : Bytes) {g : E} → (k ≡ 11 → ⊥) → Loops (resolve t r) g → ⊥
-  no-rep t n h = none-some (sym (one-none t 11 f a n) ∙ ap asRep (h .loop))
+  pub no-rep : (t : Bytes) {g : E} → (kindAt w i ≡ 11 → ⊥) → Loops (resolve t r) g → ⊥
+  no-rep t n h = none-some (sym (one-none t 11 (found-row w i (root a .inside)) a n) ∙ ap asRep (h .loop))
 
 module _ (t : Bytes) {w : List ℕ} {i : ℕ} {l : Expr Span} (v : RepOf w i l) where
-  pub no-seq : {k x y n : ℕ} → Found w (i - 1) k x y n → {g : E} → (k ≡ 8 → ⊥) → Loops (resolve t l) g → ⊥
-  no-seq f n h =
+  pub no-seq : {g : E} → (kindAt w (i - 1) ≡ 8 → ⊥) → Loops (resolve t l) g → ⊥
+  no-seq n h =
       let e : un Rep (resolve t (v .body)) ≡ un Rep (bin Seq (h .head) (h .tail)) = ap (resolve t) (sym (v .is)) ∙ h .loop in
       let z : resolve t (v .body) ≡ bin Seq (h .head) (h .tail) = cc in
-      none-some (sym (two-none t 8 f (v .at) n) ∙ ap asSeq z)
+      none-some (sym (two-none t 8 (found-row w (i - 1) (root (v .at) .inside)) (v .at) n) ∙ ap asSeq z)
 
   -- with both, the loop's head decides
-  pub loops-tell : (s : SeqOf w (i - 1) (v .body)) (b : Bool) (r : Expr Span) → Tells b (resolve t (s .left) ≡ resolve t r) → Tells b (Loops (resolve t l) (resolve t r))
-  loops-tell s b r h = tells-iff b
-      (λ e. record { head = resolve t (s .left); tail = resolve t (s .right); loop = ap (resolve t) (v .is ∙ ap (un Rep) (s .is)); again = e })
-      (λ g. let e : un Rep (bin Seq (resolve t (s .left)) (resolve t (s .right))) ≡ un Rep (bin Seq (g .head) (g .tail)) = ap (resolve t) (sym (v .is ∙ ap (un Rep) (s .is))) ∙ g .loop in
-      let z : resolve t (s .left) ≡ g .head = cc in z ∙ g .again)
+  pub loops-tell : {x y : Expr Span} → v .body ≡ bin Seq x y → (b : Bool) (r : Expr Span) → Tells b (resolve t x ≡ resolve t r) → Tells b (Loops (resolve t l) (resolve t r))
+  loops-tell {x} {y} s b r h = tells-iff b
+      (λ e. record { head = resolve t x; tail = resolve t y; loop = ap (resolve t) (v .is ∙ ap (un Rep) s); again = e })
+      (λ g. let e : un Rep (bin Seq (resolve t x) (resolve t y)) ≡ un Rep (bin Seq (g .head) (g .tail)) = ap (resolve t) (sym (v .is ∙ ap (un Rep) s)) ∙ g .loop in
+      let z : resolve t x ≡ g .head = cc in z ∙ g .again)
       h

@@ -5,6 +5,7 @@ use Prim.Native.Nat.{ℕ, suc, _+_, _-_, _*_, _≤_, _<_}
 use native.Mathlib.Omega.{arith}
 use lib.ListN.{length, getD, take, drop, set, length-take, length-drop}
 use lib.Seq.{sets, getD-set-other}
+use Rattle.grammar.specs.Numbers.{rowWidth}
 use Rattle.grammar.specs.Rows.{row}
 use Rattle.writing.specs.declared.Place.{Place}
 use Rattle.writing.specs.declared.Wrote.{Wrote}
@@ -29,37 +30,37 @@ move-more o to from i h l = rw (past o to i (from + i) (drop from o) (omega arit
 
 -- the rows moved, and three rows after them
 pub mended : (a : Wrote) (s : Place) (from n m : ℕ) (o o₁ o₂ o₃ o₄ : List ℕ) → Movable from (s .rows) o
-    → o₁ ≡ stored o ((from - 2) * 4) (take ((s .rows - from) * 4) (drop (from * 4) o))
-    → o₂ ≡ stored o₁ ((s .rows - 2) * 4) (row (8, 0, 0) n)
-    → o₃ ≡ stored o₂ ((s .rows - 1) * 4) (row (11, 0, 0) (n + 1))
+    → o₁ ≡ stored o ((from - 2) * rowWidth) (take ((s .rows - from) * rowWidth) (drop (from * rowWidth) o))
+    → o₂ ≡ stored o₁ ((s .rows - 2) * rowWidth) (row (8, 0, 0) n)
+    → o₃ ≡ stored o₂ ((s .rows - 1) * rowWidth) (row (11, 0, 0) (n + 1))
     → RowAnswer a s (8, 0, 0) m o₃ o₄ → MendedAnswer a s from n m o o₄
-mended Full s from n m o o₁ o₂ o₃ o₄ h e₁ e₂ e₃ r = r (omega (arith, h .room, ap length e₁, ap length e₂, ap length e₃, length-stored o ((from - 2) * 4) (take ((s .rows - from) * 4) (drop (from * 4) o)), length-stored o₁ ((s .rows - 2) * 4) (row (8, 0, 0) n), length-stored o₂ ((s .rows - 1) * 4) (row (11, 0, 0) (n + 1))))
+mended Full s from n m o o₁ o₂ o₃ o₄ h e₁ e₂ e₃ r = r (omega (arith, h .room, ap length e₁, ap length e₂, ap length e₃, length-stored o ((from - 2) * rowWidth) (take ((s .rows - from) * rowWidth) (drop (from * rowWidth) o)), length-stored o₁ ((s .rows - 2) * rowWidth) (row (8, 0, 0) n), length-stored o₂ ((s .rows - 1) * rowWidth) (row (11, 0, 0) (n + 1))))
 mended (Done a) s from n m o o₁ o₂ o₃ o₄ h e₁ e₂ e₃ r =
     record { rows = r .rows; text = r .text; words = f₄ ∙ rw (f₃, f₂, f₁) (simp append-assoc) }
   where
     c : List ℕ
-    c = take ((s .rows - from) * 4) (drop (from * 4) o)
+    c = take ((s .rows - from) * rowWidth) (drop (from * rowWidth) o)
 
-    lc : length c ≡ (s .rows - from) * 4
+    lc : length c ≡ (s .rows - from) * rowWidth
     lc = simp (length-take, length-drop) (omega (arith, h .room, h .some))
 
     l₁ : length o₁ ≡ length o
-    l₁ = rw e₁ (length-stored o ((from - 2) * 4) c)
+    l₁ = rw e₁ (length-stored o ((from - 2) * rowWidth) c)
 
     l₂ : length o₂ ≡ length o
-    l₂ = rw e₂ (length-stored o₁ ((s .rows - 2) * 4) (row (8, 0, 0) n)) ∙ l₁
+    l₂ = rw e₂ (length-stored o₁ ((s .rows - 2) * rowWidth) (row (8, 0, 0) n)) ∙ l₁
 
     l₃ : length o₃ ≡ length o
-    l₃ = rw e₃ (length-stored o₂ ((s .rows - 1) * 4) (row (11, 0, 0) (n + 1))) ∙ l₂
+    l₃ = rw e₃ (length-stored o₂ ((s .rows - 1) * rowWidth) (row (11, 0, 0) (n + 1))) ∙ l₂
 
-    f₁ : take ((s .rows - 2) * 4) o₁ ≡ take ((from - 2) * 4) o ++ c
-    f₁ = rw e₁ (take-stored o c ((from - 2) * 4) ((s .rows - 2) * 4) (omega (arith, lc, h .before, h .some)) (omega (arith, h .room)))
+    f₁ : take ((s .rows - 2) * rowWidth) o₁ ≡ take ((from - 2) * rowWidth) o ++ c
+    f₁ = rw e₁ (take-stored o c ((from - 2) * rowWidth) ((s .rows - 2) * rowWidth) (omega (arith, lc, h .before, h .some)) (omega (arith, h .room)))
 
-    f₂ : take ((s .rows - 1) * 4) o₂ ≡ take ((s .rows - 2) * 4) o₁ ++ row (8, 0, 0) n
-    f₂ = rw e₂ (take-stored o₁ (row (8, 0, 0) n) ((s .rows - 2) * 4) ((s .rows - 1) * 4) (omega (arith, h .before, h .some)) (omega (arith, h .room, l₁)))
+    f₂ : take ((s .rows - 1) * rowWidth) o₂ ≡ take ((s .rows - 2) * rowWidth) o₁ ++ row (8, 0, 0) n
+    f₂ = rw e₂ (take-stored o₁ (row (8, 0, 0) n) ((s .rows - 2) * rowWidth) ((s .rows - 1) * rowWidth) (omega (arith, h .before, h .some)) (omega (arith, h .room, l₁)))
 
-    f₃ : take (s .rows * 4) o₃ ≡ take ((s .rows - 1) * 4) o₂ ++ row (11, 0, 0) (n + 1)
-    f₃ = rw e₃ (take-stored o₂ (row (11, 0, 0) (n + 1)) ((s .rows - 1) * 4) (s .rows * 4) (omega (arith, h .before, h .some)) (omega (arith, h .room, l₂)))
+    f₃ : take (s .rows * rowWidth) o₃ ≡ take ((s .rows - 1) * rowWidth) o₂ ++ row (11, 0, 0) (n + 1)
+    f₃ = rw e₃ (take-stored o₂ (row (11, 0, 0) (n + 1)) ((s .rows - 1) * rowWidth) (s .rows * rowWidth) (omega (arith, h .before, h .some)) (omega (arith, h .room, l₂)))
 
-    f₄ : take (a .rows * 4) o₄ ≡ take (s .rows * 4) o₃ ++ row (8, 0, 0) m
-    f₄ = rw (r .words) (take-stored o₃ (row (8, 0, 0) m) (s .rows * 4) (a .rows * 4) (omega (arith, r .rows)) (omega (arith, r .rows, h .room, l₃)))
+    f₄ : take (a .rows * rowWidth) o₄ ≡ take (s .rows * rowWidth) o₃ ++ row (8, 0, 0) m
+    f₄ = rw (r .words) (take-stored o₃ (row (8, 0, 0) m) (s .rows * rowWidth) (a .rows * rowWidth) (omega (arith, r .rows)) (omega (arith, r .rows, h .room, l₃)))

@@ -6,6 +6,7 @@ use Prim.Native.Nat.{ℕ, _+_, _-_, _*_, _≤_}
 use native.Mathlib.Omega.{arith}
 use lib.ListN.{length, take, drop, length-append, take-append-drop}
 use lib.Seq.{take-add, take-take, drop-at, take-at, length-take-le}
+use Rattle.grammar.specs.Numbers.{rowWidth}
 use Rattle.grammar.specs.Tree.{E, Expr, Bin, Rep, Seq, bin, un, binKind, size}
 use Rattle.grammar.specs.Rows.{Span, row, flat}
 use Rattle.grammar.specs.Text.{resolve, textOf, packed}
@@ -15,7 +16,7 @@ use Rattle.rows.proofs.Laws.{length-flat, size-pos}
 use Rattle.writing.specs.declared.Place.{Place}
 use Rattle.writing.specs.declared.Wrote.{Wrote}
 use Rattle.writing.specs.declared.Wrote.the-variants.{Done, Full}
-use Rattle.writing.specs.Writes.{RowAnswer}
+use Rattle.writing.specs.Writes.{RowAnswer, stored}
 use Rattle.writing.specs.Keeps.{KeptAnswer}
 use Rattle.writing.proofs.Runs.{take-stored}
 use Rattle.writing.proofs.Keeps.{resolve-packed, within-packed}
@@ -38,14 +39,14 @@ module _ {p q s : Place} {e f : E} {o t : List ℕ} (h : Pair p q s e f o t) whe
   abbrev both : List ℕ
   both = flat (packed (p .text) e) ++ flat (packed (q .text) f)
 
-  front-length : length (take (p .rows * 4) o) ≡ p .rows * 4
-  front-length = length-take-le (p .rows * 4) o (omega (arith, h .room, h .rows₁, h .rows₂))
+  front-length : length (take (p .rows * rowWidth) o) ≡ p .rows * rowWidth
+  front-length = length-take-le (p .rows * rowWidth) o (omega (arith, h .room, h .rows₁, h .rows₂))
 
   head-length : length (take (p .text) t) ≡ p .text
   head-length = length-take-le (p .text) t (omega (arith, h .end, h .text₁, h .text₂))
 
-  whole : o ≡ take (p .rows * 4) o ++ (both ++ drop (s .rows * 4) o)
-  whole = sym (take-append-drop (s .rows * 4) o) ∙ rw (h .words) (append-assoc (take (p .rows * 4) o) both (drop (s .rows * 4) o))
+  whole : o ≡ take (p .rows * rowWidth) o ++ (both ++ drop (s .rows * rowWidth) o)
+  whole = sym (take-append-drop (s .rows * rowWidth) o) ∙ rw (h .words) (append-assoc (take (p .rows * rowWidth) o) both (drop (s .rows * rowWidth) o))
 
   text : t ≡ take (p .text) t ++ ((textOf e ++ textOf f) ++ drop (s .text) t)
   text = sym (take-append-drop (s .text) t) ∙ rw (h .bytes) (append-assoc (take (p .text) t) (textOf e ++ textOf f) (drop (s .text) t))
@@ -53,16 +54,16 @@ module _ {p q s : Place} {e f : E} {o t : List ℕ} (h : Pair p q s e f o t) whe
   -- the two trees are read where they were written
   pub at-first : At o (q .rows - 1) (packed (p .text) e)
   at-first = record {
-    before = take (p .rows * 4) o;
-    after = flat (packed (q .text) f) ++ drop (s .rows * 4) o;
-    whole = whole ∙ ap (λ (l : List ℕ). take (p .rows * 4) o ++ l) (append-assoc (flat (packed (p .text) e)) (flat (packed (q .text) f)) (drop (s .rows * 4) o));
+    before = take (p .rows * rowWidth) o;
+    after = flat (packed (q .text) f) ++ drop (s .rows * rowWidth) o;
+    whole = whole ∙ ap (λ (l : List ℕ). take (p .rows * rowWidth) o ++ l) (append-assoc (flat (packed (p .text) e)) (flat (packed (q .text) f)) (drop (s .rows * rowWidth) o));
     place = omega (arith, front-length, packed-size (p .text) e, size-pos e, h .rows₁);
   }
 
   pub at-second : At o (s .rows - 1) (packed (q .text) f)
   at-second = record {
-    before = take (p .rows * 4) o ++ flat (packed (p .text) e);
-    after = drop (s .rows * 4) o;
+    before = take (p .rows * rowWidth) o ++ flat (packed (p .text) e);
+    after = drop (s .rows * rowWidth) o;
     whole = whole ∙ simp append-assoc;
     place = simp length-append (omega (arith, front-length, length-flat (packed (p .text) e), packed-size (p .text) e, packed-size (q .text) f, size-pos f, h .rows₁, h .rows₂));
   }
@@ -96,7 +97,7 @@ module _ {p q s : Place} {e f : E} {o t : List ℕ} (h : Pair p q s e f o t) whe
       record {
         rows = omega (arith, r .rows, h .rows₁, h .rows₂);
         text = r .text ∙ omega (arith, h .text₁, h .text₂);
-        words = rw (r .words) (take-stored o _ (s .rows * 4) (a .rows * 4) (omega (arith, r .rows)) (omega (arith, r .rows, h .room)) ∙ rw (h .words, z, h .text₁) (simp append-assoc));
+        words = rw (r .words) (take-stored o _ (s .rows * rowWidth) (a .rows * rowWidth) (omega (arith, r .rows)) (omega (arith, r .rows, h .room)) ∙ rw (h .words, z, h .text₁) (simp append-assoc));
         bytes = rw (r .text) (h .bytes);
       }
 
@@ -117,17 +118,17 @@ module _ {p q s : Place} (x y f : E) {o t : List ℕ} (same : x ≡ f) (h : Pair
   abbrev loop-rows : List ℕ
   loop-rows = row (8, 0, 0) (size (packed P x) + size (packed (P + length (textOf x)) y) + 1) ++ row (11, 0, 0) (size (packed P x) + size (packed (P + length (textOf x)) y) + 1 + 1)
 
-  counts : length (take (p .rows * 4) o ++ (a ++ b)) ≡ (q .rows - 2) * 4
+  counts : length (take (p .rows * rowWidth) o ++ (a ++ b)) ≡ (q .rows - 2) * rowWidth
   counts = simp length-append (omega (arith, front-length h, length-flat (packed P x), packed-size P x, length-flat (packed (P + length (textOf x)) y), packed-size (P + length (textOf x)) y, h .rows₁))
 
-  kept-front : take ((q .rows - 2) * 4) o ≡ take (p .rows * 4) o ++ (a ++ b)
-  kept-front = front-of o _ (loop-rows ++ c) ((q .rows - 2) * 4) (s .rows * 4) (omega (arith, h .rows₂)) (h .words ∙ simp append-assoc) counts
+  kept-front : take ((q .rows - 2) * rowWidth) o ≡ take (p .rows * rowWidth) o ++ (a ++ b)
+  kept-front = front-of o _ (loop-rows ++ c) ((q .rows - 2) * rowWidth) (s .rows * rowWidth) (omega (arith, h .rows₂)) (h .words ∙ simp append-assoc) counts
 
-  kept-part : take ((s .rows - q .rows) * 4) (drop (q .rows * 4) o) ≡ c
+  kept-part : take ((s .rows - q .rows) * rowWidth) (drop (q .rows * rowWidth) o) ≡ c
   kept-part =
-      let n : (s .rows - q .rows) * 4 ≡ s .rows * 4 - q .rows * 4 = omega arith in
-      let l : length (take (p .rows * 4) o ++ ((a ++ b) ++ loop-rows)) ≡ q .rows * 4 = simp length-append (omega (arith, simp length-append at counts, h .rows₁)) in
-      rw n (part-of o (take (p .rows * 4) o ++ ((a ++ b) ++ loop-rows)) c (q .rows * 4) (s .rows * 4) (omega (arith, h .rows₂)) (h .words ∙ simp append-assoc) l)
+      let n : (s .rows - q .rows) * rowWidth ≡ s .rows * rowWidth - q .rows * rowWidth = omega arith in
+      let l : length (take (p .rows * rowWidth) o ++ ((a ++ b) ++ loop-rows)) ≡ q .rows * rowWidth = simp length-append (omega (arith, simp length-append at counts, h .rows₁)) in
+      rw n (part-of o (take (p .rows * rowWidth) o ++ ((a ++ b) ++ loop-rows)) c (q .rows * rowWidth) (s .rows * rowWidth) (omega (arith, h .rows₂)) (h .words ∙ simp append-assoc) l)
 
   pub ended-loop : (z : Wrote) (n m : ℕ) (o′ : List ℕ) → n ≡ q .rows - p .rows - 1 → m ≡ s .rows - p .rows + 1 → MendedAnswer z s (q .rows) n m o o′ → KeptAnswer z p (listed x y f) o o′ t t
   ended-loop Full n m o′ e g r = r

@@ -4,6 +4,7 @@ ghost use mathlib.Core.Bool.{false};
 ghost use mathlib.Core.Option.{none};
 ghost use Prim.Native.Nat.{_+_, _-_, _*_, _^_, _≤_, _<_};
 ghost use lib.ListN.{length, take, drop};
+ghost use Rattle.grammar.specs.Numbers.{kSeq};
 ghost use Rattle.grammar.specs.Tree.{Expr, E, Bin, bin, binKind};
 ghost use Rattle.grammar.specs.Rows.{Span};
 ghost use Rattle.grammar.specs.Text.{resolve};
@@ -13,8 +14,9 @@ ghost use Rattle.writing.specs.Writes.{stored, Areas};
 ghost use Rattle.writing.specs.Keeps.{KeptAnswer, Ready};
 ghost use Rattle.lister.specs.Loops.{Loops};
 ghost use Rattle.lister.specs.Mends.{Pair, Pairs, Movable, MendedAnswer};
-use rows::Lookup;
-use rows::Shape;
+use grammar::REP;
+use grammar::ROW_WIDTH;
+use grammar::SEQ;
 use writing::Place;
 use writing::Wrote;
 
@@ -37,10 +39,15 @@ fn mend(out: &mut [u32], from: usize, s: Place, n: u32, m: u32) -> Wrote
     ensures { λ a. ⌜ MendedAnswer a s from n m (now (out .entry)) (now (out .exit)) ⌝ }
 {
     let end = s.rows;
-    move_down(out, (from - 2) * 4, from * 4, (end - from) * 4);
-    writing::set_row(out, end - 2, 8, 0, 0, n);
-    writing::set_row(out, end - 1, 11, 0, 0, n + 1);
-    writing::put_row(out, s, 8, 0, 0, m)
+    move_down(
+        out,
+        (from - 2) * ROW_WIDTH,
+        from * ROW_WIDTH,
+        (end - from) * ROW_WIDTH,
+    );
+    writing::set_row(out, end - 2, SEQ, 0, 0, n);
+    writing::set_row(out, end - 1, REP, 0, 0, n + 1);
+    writing::put_row(out, s, SEQ, 0, 0, m)
 }
 
 // Whether the subtrees of rows i and j are (a~b)* and a.
@@ -49,42 +56,14 @@ fn loops(rows: &[u32], text: &[u8], i: usize, j: usize) -> bool
     requires { ⌜ StandsIn (now rows) j (length (now text)) ⌝ }
     ensures { λ b. ⌜ ((l r : Expr Span) → At (now (rows .entry)) i l → At (now (rows .entry)) j r → Tells b (Loops (resolve (now (text .entry)) l) (resolve (now (text .entry)) r))) ⌝ }
 {
-    let Lookup::Row {
-        kind: k,
-        x: _,
-        y: _,
-        size: _,
-    } = rows::row_at(rows, i)
-    else {
-        return false;
-    };
-    if k != 11 {
+    if rows[i * ROW_WIDTH] != REP {
         return false;
     }
     let body = i - 1;
-    let Lookup::Row {
-        kind: l,
-        x: _,
-        y: _,
-        size: _,
-    } = rows::row_at(rows, body)
-    else {
-        return false;
-    };
-    if l != 8 {
+    if rows[body * ROW_WIDTH] != SEQ {
         return false;
     }
-    let right = body - 1;
-    let Lookup::Row {
-        kind: _,
-        x: _,
-        y: _,
-        size: n,
-    } = rows::row_at(rows, right)
-    else {
-        return false;
-    };
-    rows::same_tree(rows, text, right - rows::wide(n), rows, text, j)
+    rows::same_tree(rows, text, rows::left_of(rows, body), rows, text, j)
 }
 
 // Ends a node of two children that stand from p to q and from q to s.
@@ -95,122 +74,32 @@ fn finish(out: &mut [u32], lits: &[u8], p: Place, q: Place, s: Place, kind: u32)
     let from = q.rows;
     let end = s.rows;
     let size = (end - p.rows + 1) as u32;
-    if kind != 8 {
+    if kind != SEQ {
         return writing::put_row(out, s, kind, 0, 0, size);
     }
     if loops(out, lits, from - 1, end - 1) {
         // the loop's two rows count what they did: a is as large as the tree that follows
         return mend(out, from, s, (from - p.rows - 1) as u32, size);
     }
-    writing::put_row(out, s, 8, 0, 0, size)
+    writing::put_row(out, s, SEQ, 0, 0, size)
 }
 
 // Whether the Seq of row i begins with a loop that is listed.
-fn fires(rows: &[u32], text: &[u8], i: usize) -> bool
+pub fn fires(rows: &[u32], text: &[u8], i: usize) -> bool
     requires { ⌜ Inside (now rows) (length (now text)) ⌝ }
     requires { ⌜ Stands (now rows) i ⌝ }
-    requires { ⌜ kindAt (now rows) i ≡ 8 ⌝ }
+    requires { ⌜ kindAt (now rows) i ≡ kSeq ⌝ }
     ensures { λ b. ⌜ (b ≡ false → (x : Expr Span) → At (now (rows .entry)) i x → list? (resolve (now (text .entry)) x) ≡ none) ⌝ }
 {
-    let right = i - 1;
-    let Lookup::Row {
-        kind: _,
-        x: _,
-        y: _,
-        size: n,
-    } = rows::row_at(rows, right)
-    else {
-        return true;
-    };
-    let left = right - rows::wide(n);
-    let Lookup::Row {
-        kind: first,
-        x: _,
-        y: _,
-        size: _,
-    } = rows::row_at(rows, left)
-    else {
-        return true;
-    };
+    let left = rows::left_of(rows, i);
     // nearly every Seq, and no call
-    if first != 11 {
+    if rows[left * ROW_WIDTH] != REP {
         return false;
     }
-    loops(rows, text, left, right)
+    loops(rows, text, left, i - 1)
 }
 
-// Whether some Seq of the subtree of row `root` does.
-pub fn any_fires(rows: &[u32], text: &[u8], root: usize) -> bool
-    requires { ⌜ Inside (now rows) (length (now text)) ⌝ }
-    requires { ⌜ Stands (now rows) root ⌝ }
-    ensures { λ b. ⌜ (b ≡ false → (r : Expr Span) → At (now (rows .entry)) root r → list (resolve (now (text .entry)) r) ≡ resolve (now (text .entry)) r) ⌝ }
-{
-    let Lookup::Row {
-        kind: _,
-        x: _,
-        y: _,
-        size,
-    } = rows::row_at(rows, root)
-    else {
-        return true;
-    };
-    let mut i = root + 1 - rows::wide(size);
-    while i <= root {
-        if rows[i * 4] == 8 {
-            if fires(rows, text, i) {
-                return true;
-            }
-        }
-        i += 1;
-    }
-    false
-}
-
-// Writes the listed subtree of row `root` node by node at p, its literals packed.
-fn walk(rows: &[u32], text: &[u8], root: usize, out: &mut [u32], lits: &mut [u8], p: Place) -> Wrote
-    requires { ⌜ Inside (now rows) (length (now text)) ⌝ }
-    requires { ⌜ Ready (now rows) (now text) root p (now out) (now lits) ⌝ }
-    requires { ⌜ Areas (now out) (now lits) ⌝ }
-    ensures { λ a. ⌜ ((r : Expr Span) → At (now (rows .entry)) root r → KeptAnswer a p (list (resolve (now (text .entry)) r)) (now (out .entry)) (now (out .exit)) (now (lits .entry)) (now (lits .exit))) ⌝ }
-{
-    let base = chains::below(rows, root);
-    let Lookup::Row {
-        kind,
-        x: _,
-        y: _,
-        size: _,
-    } = rows::row_at(rows, base)
-    else {
-        return Wrote::Full;
-    };
-    if let Shape::Two = rows::shape_of(kind) {
-        let right = base - 1;
-        let Lookup::Row {
-            kind: _,
-            x: _,
-            y: _,
-            size: n,
-        } = rows::row_at(rows, right)
-        else {
-            return Wrote::Full;
-        };
-        let left = right - rows::wide(n);
-        let Wrote::Done(q) = walk(rows, text, left, out, lits, p) else {
-            return Wrote::Full;
-        };
-        let Wrote::Done(s) = walk(rows, text, right, out, lits, q) else {
-            return Wrote::Full;
-        };
-        let Wrote::Done(e) = finish(out, lits, p, q, s, kind) else {
-            return Wrote::Full;
-        };
-        chains::raise(rows, base, root, out, p, e)
-    } else {
-        writing::keep(rows, text, root, out, lits, p)
-    }
-}
-
-// Writes the listed subtree of row `root` at p, its literals packed: most have no loop to list, and a copy is cheaper than a walk.
+// Writes the listed subtree of row `root` at p, its literals packed: its children first, then its own row or what they are listed as.
 pub fn list(
     rows: &[u32],
     text: &[u8],
@@ -224,8 +113,12 @@ pub fn list(
     requires { ⌜ Areas (now out) (now lits) ⌝ }
     ensures { λ a. ⌜ ((r : Expr Span) → At (now (rows .entry)) root r → KeptAnswer a p (list (resolve (now (text .entry)) r)) (now (out .entry)) (now (out .exit)) (now (lits .entry)) (now (lits .exit))) ⌝ }
 {
-    if !any_fires(rows, text, root) {
+    let base = chains::below(rows, root);
+    if !chains::forks(rows, base) {
         return writing::keep(rows, text, root, out, lits, p);
     }
-    walk(rows, text, root, out, lits, p)
+    let q = chains::ended(list(rows, text, rows::left_of(rows, base), out, lits, p));
+    let s = chains::ended(list(rows, text, base - 1, out, lits, q));
+    let e = chains::ended(finish(out, lits, p, q, s, rows[base * ROW_WIDTH]));
+    chains::raise(rows, base, root, out, p, e)
 }

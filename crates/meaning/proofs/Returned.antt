@@ -5,6 +5,7 @@ use Prim.Native.Nat.{ℕ, _+_, _*_}
 use native.Mathlib.Omega.{arith}
 use lib.ListN.{length, take, drop, length-append}
 use lib.Seq.{take-at}
+use Rattle.grammar.specs.Numbers.{ruleWidth, rowWidth}
 use Rattle.grammar.specs.Basic.{Bytes}
 use Rattle.grammar.specs.Tree.{E, lit, fixed, skip, un, bin}
 use Rattle.grammar.specs.Rows.{Span, flat}
@@ -17,11 +18,11 @@ use Rattle.grammar.proofs.Words.{StrsAllowed, Allowed, AllowedTable, flat-lengt
 use Rattle.grammar.proofs.Packing.{packed-size, table-resolved, words-back}
 use Rattle.meaning.specs.Demand3.{StandFor, allKinds, returned}
 
-rules-length : (o : ℕ) (t : Table Bytes) → length (ruleWords (packedFrom o t)) ≡ 4 * length t
+rules-length : (o : ℕ) (t : Table Bytes) → length (ruleWords (packedFrom o t)) ≡ ruleWidth * length t
 rules-length o [] = refl
 rules-length o (r ∷ t) = omega (arith, rules-length (o + length (ruleText r)) t)
 
-rows-length : (o : ℕ) (t : Table Bytes) → length (rowWords (packedFrom o t)) ≡ 4 * rowCount t
+rows-length : (o : ℕ) (t : Table Bytes) → length (rowWords (packedFrom o t)) ≡ rowWidth * rowCount t
 rows-length o [] = refl
 rows-length o (r ∷ t) =
     length-append (flat (packedRule o r .body)) (rowWords (packedFrom (o + length (ruleText r)) t))
@@ -55,6 +56,6 @@ words-stand out report t a =
     let w : Words = wordsOf t in
     record {
       spans = packedFrom 0 t;
-      read = ap₂ (readTable allKinds) (front (4 * length t) (w .rules) (out .rules) (rules-length 0 t)) (front (4 * rowCount t) (w .rows) (out .rows) (rows-length 0 t)) ∙ words-back allKinds t a;
+      read = ap₂ (readTable allKinds) (front (ruleWidth * length t) (w .rules) (out .rules) (rules-length 0 t)) (front (rowWidth * rowCount t) (w .rows) (out .rows) (rows-length 0 t)) ∙ words-back allKinds t a;
       means = ap (λ (text : Bytes). resolveTable text (packedFrom 0 t)) (front (length (tableText t)) (w .text) (out .text) refl) ∙ table-resolved t;
     }

@@ -7,6 +7,7 @@ use mathlib.Core.Logic.{_↔_}
 use Prim.Native.Nat.{ℕ, _*_}
 use lib.ListN.{take, getD}
 use lib.Dec.{ltb}
+use Rattle.grammar.specs.Numbers.{ruleWidth, rowWidth, lastAscii, kRepMinMax, kPush}
 use Rattle.grammar.specs.Basic.{Bytes, any, member, sameBytes}
 use Rattle.grammar.specs.Tree.{Str, Insens, Ident, Range, PeekSlice, PeekFrom, Un, E, lit, fixed, skip, un, bin, isUn, unHead, anyNode}
 use Rattle.grammar.specs.Rows.{Span}
@@ -30,7 +31,7 @@ allKinds k = true
 
 -- the returned words: as many as the counts say, of each output area
 abbrev pub returned : Answer → Words
-returned a = record { rules = take (4 * a .rules) (a .out .rules); rows = take (4 * a .rows) (a .out .rows); text = take (a .text) (a .out .text) }
+returned a = record { rules = take (ruleWidth * a .rules) (a .out .rules); rows = take (rowWidth * a .rows) (a .out .rows); text = take (a .text) (a .out .text) }
 
 -- "the table after the first n steps"
 unfoldable pub after : ℕ → Table Bytes → Table Bytes
@@ -62,7 +63,7 @@ ofUn test (un u e) = test u
 ofUn test (bin b l r) = false
 
 abbrev pub isPush : E → Bool
-isPush e = ofUn (isUn 18) e
+isPush e = ofUn (isUn kPush) e
 
 abbrev pub isPeek : E → Bool
 isPeek (lit k w) = false
@@ -75,7 +76,7 @@ isPeek (bin b l r) = false
 
 -- a minimum above its maximum: of a RepMinMax, kind 16, they are x and y
 abbrev pub crossedUn : Un → Bool
-crossedUn u = isUn 16 u && ltb (unHead u .2) (unHead u .1)
+crossedUn u = isUn kRepMinMax u && ltb (unHead u .2) (unHead u .1)
 
 abbrev pub crossed : E → Bool
 crossed e = ofUn crossedUn e
@@ -97,7 +98,7 @@ pub record Premises (t : Table Bytes) : Type 0 where
 
 -- "input is a list of bytes 0 to 127". The proof does not use it: ANY and Range take one byte of whatever value
 abbrev pub Ascii : Bytes → Type 0
-Ascii s = any (ltb 127) s ≡ false
+Ascii s = any (ltb lastAscii) s ≡ false
 
 -- "For every rule, ASCII input and start position", u "fails, or succeeds at an end, exactly when" t does
 pub record SameOutcomes (t u : Table Bytes) : Type 0 where

@@ -6,6 +6,7 @@ use mathlib.Core.Option.{Option, none, some}
 use Prim.Native.Nat.{ℕ, zero, suc, _+_, _-_, _*_, _/_, _<_}
 use native.Mathlib.Omega.{arith}
 use lib.ListN.{length, getD, getElem?, length-append}
+use Rattle.grammar.specs.Numbers.{ruleWidth, lengthWord, typeWord, rowsWord, rowWidth}
 use Rattle.grammar.specs.Basic.{Bytes, sameBytes}
 use Rattle.grammar.specs.Tree.{E, size}
 use Rattle.grammar.specs.Rows.{Span, flat}
@@ -15,26 +16,26 @@ use Rattle.grammar.specs.Table.{Rule, Table, ruleWords, rowWords, rowCount, res
 use Rattle.grammar.proofs.Logic.{none-some, some-eq, eq-sameBytes, sameBytes-eq}
 use Rattle.rows.specs.Rows as rows
 use Rattle.rows.proofs.Laws.{length-flat, size-pos}
-use Rattle.names.specs.Names.{nameOf, rowsBefore, NamesInside, Hashed, First, Finds}
-use Rattle.names.proofs.Index.{hashed-named}
+use Rattle.names.specs.Names.{nameOf, rowsBefore, NamesInside, AllIndexed, First, Finds}
+use Rattle.names.proofs.Index.{index-named}
 use Rattle.names.specs.declared.Found.{Found}
 use Rattle.names.specs.declared.Found.the-variants.{At, Nothing}
 
 -- ---- the words of rule i
 
 -- a word of the rules, past the first rule
-past : (a b c d : ℕ) (ws : List ℕ) (i k : ℕ) → getD (a ∷ b ∷ c ∷ d ∷ ws) (suc i * 4 + k) 0 ≡ getD ws (i * 4 + k) 0
-past a b c d ws i k = let e : suc i * 4 + k ≡ suc (suc (suc (suc (i * 4 + k)))) = omega arith in rw e
+past : (a b c d : ℕ) (ws : List ℕ) (i k : ℕ) → getD (a ∷ b ∷ c ∷ d ∷ ws) (suc i * rowWidth + k) 0 ≡ getD ws (i * rowWidth + k) 0
+past a b c d ws i k = let e : suc i * ruleWidth + k ≡ suc (suc (suc (suc (i * ruleWidth + k)))) = omega arith in rw e
 
-past₀ : (a b c d : ℕ) (ws : List ℕ) (i : ℕ) → getD (a ∷ b ∷ c ∷ d ∷ ws) (suc i * 4) 0 ≡ getD ws (i * 4) 0
-past₀ a b c d ws i = let e : suc i * 4 ≡ suc (suc (suc (suc (i * 4)))) = omega arith in rw e
+past₀ : (a b c d : ℕ) (ws : List ℕ) (i : ℕ) → getD (a ∷ b ∷ c ∷ d ∷ ws) (suc i * rowWidth) 0 ≡ getD ws (i * rowWidth) 0
+past₀ a b c d ws i = let e : suc i * ruleWidth ≡ suc (suc (suc (suc (i * ruleWidth)))) = omega arith in rw e
 
 -- rule i of a table, in its words
 pub record RuleAt (rules : List ℕ) (i : ℕ) (r : Rule Span) : Type 0 where
-  pub offset : getD rules (i * 4) 0 ≡ r .name .0
-  pub length′ : getD rules (i * 4 + 1) 0 ≡ r .name .1
-  pub type′ : getD rules (i * 4 + 2) 0 ≡ r .type
-  pub rows′ : getD rules (i * 4 + 3) 0 ≡ size (r .body)
+  pub offset : getD rules (i * ruleWidth) 0 ≡ r .name .0
+  pub length′ : getD rules (i * ruleWidth + lengthWord) 0 ≡ r .name .1
+  pub type′ : getD rules (i * ruleWidth + typeWord) 0 ≡ r .type
+  pub rows′ : getD rules (i * ruleWidth + rowsWord) 0 ≡ size (r .body)
 
 pub rule-words : (t : Table Span) (i : ℕ) (r : Rule Span) → getElem? t i ≡ some r → RuleAt (ruleWords t) i r
 rule-words [] i r h = none-some h
@@ -48,11 +49,11 @@ rule-words (s ∷ t) (suc i) r h =
       rows′ = past _ _ _ _ (ruleWords t) i 3 ∙ ih .rows′;
     }
 
-pub length-rules : (t : Table Span) → length (ruleWords t) ≡ length t * 4
+pub length-rules : (t : Table Span) → length (ruleWords t) ≡ length t * ruleWidth
 length-rules [] = refl
 length-rules (r ∷ t) = omega (arith, length-rules t)
 
-pub rule-count : (t : Table Span) → length (ruleWords t) / 4 ≡ length t
+pub rule-count : (t : Table Span) → length (ruleWords t) / ruleWidth ≡ length t
 rule-count t = omega (arith, length-rules t)
 
 -- there is a rule i
@@ -107,7 +108,7 @@ module _ (text key : Bytes) where
       pub finds : find (resolveTable text t) key ≡ some (resolve text (rule .body))
 
     -- THE LAW OF SEARCH: what a search among all rules finds is what `find` finds in the table
-    pub looked : (i : ℕ) → First (length (ruleWords t) / 4) (ruleWords t) text key i → Looked i
+    pub looked : (i : ℕ) → First (length (ruleWords t) / ruleWidth) (ruleWords t) text key i → Looked i
     looked i f =
         let h : There t i = there t i (omega (arith, f .below, rule-count t)) in
         let e : bytesAt text (h .rule .name) ≡ key = sym (name-is text t i (h .rule) (h .is)) ∙ f .same in
@@ -118,7 +119,7 @@ module _ (text key : Bytes) where
           finds = find-first t i (h .rule) (h .is) e (λ j s l q k. f .first j l (name-is text t j s q ∙ k));
         }
 
-    pub not-found : ((j : ℕ) → j < length (ruleWords t) / 4 → nameOf (ruleWords t) text j ≡ key → ⊥) → find (resolveTable text t) key ≡ none
+    pub not-found : ((j : ℕ) → j < length (ruleWords t) / ruleWidth → nameOf (ruleWords t) text j ≡ key → ⊥) → find (resolveTable text t) key ≡ none
     not-found f = find-nothing t (λ j s q k. f j (omega (arith, inside-table t j s q, rule-count t)) (name-is text t j s q ∙ k))
 
     -- the resolved body of what was found
@@ -130,7 +131,7 @@ module _ (text key : Bytes) where
     foundBody (At i) = bodyOf (getElem? t i)
     foundBody Nothing = none
 
-    pub find-is : (rules : List ℕ) (f : Found) → ruleWords t ≡ rules → Finds (length rules / 4) rules text key f → find (resolveTable text t) key ≡ foundBody f
+    pub find-is : (rules : List ℕ) (f : Found) → ruleWords t ≡ rules → Finds (length rules / ruleWidth) rules text key f → find (resolveTable text t) key ≡ foundBody f
     find-is rules (At i) e h = let l : Looked i = looked i (rw (← e) at h) in l .finds ∙ ap bodyOf (sym (l .is))
     find-is rules Nothing e h = not-found (rw (← e) at h)
 
@@ -145,7 +146,7 @@ pub rows-before-all : (t : Table Span) → rowsBefore (ruleWords t) (length t) �
 rows-before-all [] = refl
 rows-before-all (r ∷ t) = before-past _ _ _ _ (ruleWords t) (length t) ∙ ap (λ (n : ℕ). size (r .body) + n) (rows-before-all t)
 
-pub length-rows : (t : Table Span) → length (rowWords t) ≡ rowCount t * 4
+pub length-rows : (t : Table Span) → length (rowWords t) ≡ rowCount t * rowWidth
 length-rows [] = refl
 length-rows (r ∷ t) = simp length-append (omega (arith, length-flat (r .body), length-rows t))
 
@@ -176,8 +177,8 @@ names-length text [] = refl
 names-length text (r ∷ t) = omega (arith, names-length text t)
 
 -- THE INDEX OF A TABLE'S NAMES is that of every table with these names
-pub hashed-moved : (t t′ : Table Span) {text text′ : Bytes} {m : List ℕ} → names (resolveTable text′ t′) ≡ names (resolveTable text t) → NamesInside (ruleWords t′) (length text′) → Hashed (ruleWords t) text m → Hashed (ruleWords t′) text′ m
-hashed-moved t t′ {text} {text′} e f h = hashed-named (omega (arith, rule-count t, rule-count t′, same)) (λ i l. at i (there t i (omega (arith, rule-count t))) (there t′ i (omega (arith, rule-count t, same)))) f h
+pub index-moved : (t t′ : Table Span) {text text′ : Bytes} {m : List ℕ} → names (resolveTable text′ t′) ≡ names (resolveTable text t) → NamesInside (ruleWords t′) (length text′) → AllIndexed (ruleWords t) text m → AllIndexed (ruleWords t′) text′ m
+index-moved t t′ {text} {text′} e f h = index-named (omega (arith, rule-count t, rule-count t′, same)) (λ i l. at i (there t i (omega (arith, rule-count t))) (there t′ i (omega (arith, rule-count t, same)))) f h
   where
     same : length t′ ≡ length t
     same = sym (names-length text′ t′) ∙ ap length e ∙ names-length text t

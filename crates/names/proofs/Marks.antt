@@ -11,6 +11,7 @@ use borrow.Author.Tests.{lt-ltb, le-ltb, eqb-true, eqb-false, leb-true, leb-fals
 use lib.Dec.{eqb, leb}
 use lib.ListN.{length, getD, set, drop, length-set, length-take, length-drop}
 use lib.Seq.{drop-cons, ext-getD, getD-take, getD-drop, take-all, getD-set-same, getD-set-other}
+use Rattle.grammar.specs.Numbers.{ruleWidth, rowsWord, markWidth}
 use Rattle.grammar.specs.Basic.{Bytes, sameBytes}
 use Rattle.grammar.specs.Text.{bytesAt}
 use Rattle.grammar.proofs.Logic.{or-left, eq-sameBytes, sameBytes-eq}
@@ -102,32 +103,32 @@ module _ (t : Bytes) (x n y m d : ℕ) (h : x + n ≤ length t) (k : y + m ≤ l
 module _ (f : ℕ → ℕ) (j : ℕ) where
   pub length-marked : (n : ℕ) (m : List ℕ) → length (marked f j n m) ≡ length m
   length-marked zero m = refl
-  length-marked (suc n) m = length-set (marked f j n m) (n * 4 + j) (f n) ∙ length-marked n m
+  length-marked (suc n) m = length-set (marked f j n m) (n * markWidth + j) (f n) ∙ length-marked n m
 
   -- a word of the marks that is none of those written
-  pub marked-other : (n : ℕ) (m : List ℕ) (k : ℕ) → ((i : ℕ) → i < n → k ≡ i * 4 + j → ⊥) → getD (marked f j n m) k 0 ≡ getD m k 0
+  pub marked-other : (n : ℕ) (m : List ℕ) (k : ℕ) → ((i : ℕ) → i < n → k ≡ i * markWidth + j → ⊥) → getD (marked f j n m) k 0 ≡ getD m k 0
   marked-other zero m k h = refl
   marked-other (suc n) m k h =
-      getD-set-other (marked f j n m) (n * 4 + j) k (f n) 0 (h n (omega arith)) ∙ marked-other n m k (λ i l. h i (omega arith))
+      getD-set-other (marked f j n m) (n * markWidth + j) k (f n) 0 (h n (omega arith)) ∙ marked-other n m k (λ i l. h i (omega arith))
 
   -- a word that was written
-  pub marked-at : (n : ℕ) (m : List ℕ) (i : ℕ) → j < 4 → n * 4 ≤ length m → i < n → getD (marked f j n m) (i * 4 + j) 0 ≡ f i
+  pub marked-at : (n : ℕ) (m : List ℕ) (i : ℕ) → j < markWidth → n * markWidth ≤ length m → i < n → getD (marked f j n m) (i * markWidth + j) 0 ≡ f i
   marked-at zero m i s l h = absurd (omega arith)
   marked-at (suc n) m i s l h = go (ℕ-discrete i n) (λ b. marked-at n m i s (omega arith) b)
     where
-      go : Dec (i ≡ n) → (i < n → getD (marked f j n m) (i * 4 + j) 0 ≡ f i) → getD (set (marked f j n m) (n * 4 + j) (f n)) (i * 4 + j) 0 ≡ f i
-      go (yes e) ih = rw e (getD-set-same (marked f j n m) (n * 4 + j) (f n) 0 (omega (arith, length-marked n m)))
-      go (no e) ih = getD-set-other (marked f j n m) (n * 4 + j) (i * 4 + j) (f n) 0 (λ q. e (omega arith)) ∙ ih (omega arith)
+      go : Dec (i ≡ n) → (i < n → getD (marked f j n m) (i * markWidth + j) 0 ≡ f i) → getD (set (marked f j n m) (n * markWidth + j) (f n)) (i * markWidth + j) 0 ≡ f i
+      go (yes e) ih = rw e (getD-set-same (marked f j n m) (n * markWidth + j) (f n) 0 (omega (arith, length-marked n m)))
+      go (no e) ih = getD-set-other (marked f j n m) (n * markWidth + j) (i * markWidth + j) (f n) 0 (λ q. e (omega arith)) ∙ ih (omega arith)
 
-pub ended : (rules m : List ℕ) → length rules / 4 * 4 ≤ length m → Ended rules (withEnds rules m)
-ended rules m l = record { end = λ i b. marked-at (λ k. rowsBefore rules (suc k)) 3 (length rules / 4) m i (omega arith) l b }
+pub ended : (rules m : List ℕ) → length rules / ruleWidth * markWidth ≤ length m → Ended rules (withEnds rules m)
+ended rules m l = record { end = λ i b. marked-at (λ k. rowsBefore rules (suc k)) 3 (length rules / ruleWidth) m i (omega arith) l b }
 
 -- the rows before a rule grow
 pub before-grows : (rules : List ℕ) (i n : ℕ) → i ≤ n → rowsBefore rules i ≤ rowsBefore rules n
 before-grows rules i zero h = let e : i ≡ 0 = omega arith in rw e (omega arith)
 before-grows rules i (suc n) h = go (ℕ-discrete i (suc n)) (λ b. before-grows rules i n b)
   where
-    go : Dec (i ≡ suc n) → (i ≤ n → rowsBefore rules i ≤ rowsBefore rules n) → rowsBefore rules i ≤ rowsBefore rules n + getD rules (n * 4 + 3) 0
+    go : Dec (i ≡ suc n) → (i ≤ n → rowsBefore rules i ≤ rowsBefore rules n) → rowsBefore rules i ≤ rowsBefore rules n + getD rules (n * ruleWidth + rowsWord) 0
     go (yes e) ih = rw e (omega arith)
     go (no e) ih = let l : rowsBefore rules i ≤ rowsBefore rules n = ih (omega arith) in omega arith
 
@@ -153,10 +154,10 @@ pub parts-differ : (t : Bytes) (x l : ℕ) (u : Bytes) (y n : ℕ) → x + l ≤
 parts-differ t x l u y n h k d = part-differ t x l (bytesAt u (y, n)) h (λ e. d (e ∙ length-part u y n k))
 
 -- one mark more
-pub marked-step : (f : ℕ → ℕ) (j i : ℕ) (m w : List ℕ) (k v : ℕ) → w ≡ marked f j i m → k ≡ i * 4 + j → v ≡ f i → set w k v ≡ marked f j (i + 1) m
+pub marked-step : (f : ℕ → ℕ) (j i : ℕ) (m w : List ℕ) (k v : ℕ) → w ≡ marked f j i m → k ≡ i * markWidth + j → v ≡ f i → set w k v ≡ marked f j (i + 1) m
 marked-step f j i m w k v hw hk hv = rw (add-one, hw, hk, hv)
 
-pub before-step : (rules : List ℕ) (i n : ℕ) → n ≡ rowsBefore rules i → n + getD rules (i * 4 + 3) 0 ≡ rowsBefore rules (i + 1)
+pub before-step : (rules : List ℕ) (i n : ℕ) → n ≡ rowsBefore rules i → n + getD rules (i * ruleWidth + rowsWord) 0 ≡ rowsBefore rules (i + 1)
 before-step rules i n h = rw (add-one, h)
 
 -- a search in a list of names: found at the first, or further on

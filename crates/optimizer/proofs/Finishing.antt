@@ -6,42 +6,37 @@ use Prim.Native.Nat.{ℕ, _*_, _/_, _^_, _≤_, _<_}
 use native.Mathlib.Omega.{arith}
 use borrow.Author.Tests.{ltb-false, ltb-true, le-ltb, lt-ltb}
 use lib.ListN.{length, take}
+use lib.Seq.{take-append-le}
 use lib.Dec.{ltb}
+use Rattle.grammar.specs.Numbers.{ruleWidth, rowWidth}
 use Rattle.grammar.specs.Basic.{Bytes, any}
-use Rattle.grammar.specs.Rows.{Span}
-use Rattle.grammar.specs.Tree.{size}
 use Rattle.grammar.specs.Table.{Table, Words, rowCount, tableText, resolveTable, wordsOf}
 use Rattle.grammar.specs.Refusals.{tooLarge}
 use Rattle.grammar.specs.Optimize as whole
 use Rattle.grammar.specs.Optimize.{stages, pairs, lastOf, finish, answer, over}
-use Rattle.grammar.proofs.Logic.{or-left, or-right}
-use Rattle.rows.proofs.Cells.{size-resolve}
+use Rattle.grammar.proofs.Logic.{or-right}
 use Rattle.writing.specs.declared.Place.{Place}
 use Rattle.refusals.specs.Check.{lent}
 use Rattle.refusals.proofs.Fours.{neither-left, neither-right}
-use Rattle.passes.specs.Passes.{Lent, Front, stepOf}
-use Rattle.passes.proofs.Tables.{each-length}
+use Rattle.passes.specs.Passes.{Front}
 use Rattle.passes.proofs.Progress.{rows-length}
 use Rattle.packing.specs.Packing.{Covers}
-use Rattle.turns.specs.Chain.{Sized, Ready, Ran, SevenAnswer, after, firstFive, lastTwo, allSeven}
+use Rattle.admission.specs.Ready.{Ready}
+use Rattle.admission.proofs.Trying.{resolved-count}
+use Rattle.turns.specs.Chain.{Ran, SevenAnswer, allSeven}
 use Rattle.optimizer.specs.Entry.{seen, AtLeast, Small}
 use Rattle.optimizer.specs.declared.Answer.{Answer}
 use Rattle.turns.specs.declared.Seven.{Seven}
 use Rattle.turns.specs.declared.Seven.the-variants as seven
 use Rattle.turns.proofs.Fronts.{front-within}
-use Rattle.turns.proofs.Asking.{stages-seven}
-use Rattle.turns.proofs.Sizes.{front-fine}
-use Rattle.turns.proofs.Runs.{fifth-count}
+use Rattle.turns.proofs.Asking.{stages-are}
+use Rattle.turns.proofs.Runs.{ready-lent, restored-count}
 
 pub seven-done : {a : Seven} {i j k l m n : ℕ} {q : Place} (ts : List (Table Bytes)) (os o s : List ℕ) → a ≡ seven.Done i j k l m n q → SevenAnswer a ts os o s → Ran (i ∷ j ∷ k ∷ l ∷ m ∷ n ∷ q .rows ∷ []) q ts os o s
 seven-done ts os o s e h = subst (λ (a : Seven). SevenAnswer a ts os o s) e h
 
 pub seven-full : {a : Seven} (ts : List (Table Bytes)) (os o s : List ℕ) → a ≡ seven.Full → SevenAnswer a ts os o s → any tooLarge ts ≡ true
 seven-full ts os o s e h = subst (λ (a : Seven). SevenAnswer a ts os o s) e h
-
--- the document's stages are the tables that the steps give
-pub stages-are : (t : Table Bytes) → stages t ≡ t ∷ allSeven t
-stages-are t = stages-seven t
 
 -- one of them is too large, or none is
 when-large : (ts : List (Table Bytes)) → any tooLarge ts ≡ true → finish ts ≡ whole.refused 8
@@ -51,9 +46,6 @@ when-large ts h = rw h refl
 when-fits : (ts : List (Table Bytes)) → any tooLarge ts ≡ false → finish ts ≡ whole.finished (pairs ts) (lastOf ts)
 unfolding finish
 when-fits ts h = rw h refl
-
-pub input-large : (t : Table Bytes) → tooLarge t ≡ true → finish (stages t) ≡ whole.refused 8
-input-large t h = ap finish (stages-are t) ∙ when-large (t ∷ allSeven t) (or-left (tooLarge t) _ h)
 
 pub steps-large : (t : Table Bytes) → any tooLarge (allSeven t) ≡ true → finish (stages t) ≡ whole.refused 8
 steps-large t h = ap finish (stages-are t) ∙ when-large (t ∷ allSeven t) (or-right (tooLarge t) _ h)
@@ -82,8 +74,15 @@ all-small : (ts : List (Table Bytes)) → any tooLarge ts ≡ false → AllSmall
 all-small [] h = tt
 all-small (t ∷ ts) h = (omega (arith, few-rows t (neither-left (tooLarge t) (any tooLarge ts) h)), all-small ts (neither-right (tooLarge t) (any tooLarge ts) h))
 
-pub ran-small : {i j k l m n count : ℕ} {q : Place} (first : ℕ) (t : Table Bytes) {os o s : List ℕ} → count ≤ 1024 → first ≤ 4096 → Sized os o s → Ran (i ∷ j ∷ k ∷ l ∷ m ∷ n ∷ q .rows ∷ []) q (allSeven t) os o s → Small count first i j k l m n q
-ran-small {i} {j} {k} {l} {m} {n} {count} {q} first t c f z r =
+-- the last table among them
+last-fits : (ts : List (Table Bytes)) → any tooLarge ts ≡ false → tooLarge (lastOf ts) ≡ false
+unfolding tooLarge
+last-fits [] h = refl
+last-fits (t ∷ []) h = neither-left (tooLarge t) false h
+last-fits (s ∷ t ∷ ts) h = last-fits (t ∷ ts) (neither-right (tooLarge s) (any tooLarge (t ∷ ts)) h)
+
+pub ran-small : {i j k l m n count : ℕ} {q : Place} (first : ℕ) (t : Table Bytes) {os o s : List ℕ} → count ≤ 1024 → first ≤ 4096 → Ran (i ∷ j ∷ k ∷ l ∷ m ∷ n ∷ q .rows ∷ []) q (allSeven t) os o s → Small count first i j k l m n q
+ran-small {i} {j} {k} {l} {m} {n} {count} {q} first t c f r =
     let a : AllSmall (i ∷ j ∷ k ∷ l ∷ m ∷ n ∷ q .rows ∷ []) = subst AllSmall (sym (r .counts)) (all-small (allSeven t) (r .fits)) in
     record {
       rules = omega (arith, c);
@@ -95,7 +94,7 @@ ran-small {i} {j} {k} {l} {m} {n} {count} {q} first t c f z r =
       sixth = a .1 .1 .1 .1 .0;
       seventh = a .1 .1 .1 .1 .1 .0;
       rows = a .1 .1 .1 .1 .1 .1 .0;
-      text = omega (arith, r .front .text, few-bytes (lastOf (allSeven t)) (front-fine (lastOf (allSeven t)) z (r .front)));
+      text = omega (arith, r .front .text, few-bytes (lastOf (allSeven t)) (last-fits (allSeven t) (r .fits)));
     }
 
 -- pairs of counts
@@ -109,33 +108,24 @@ pairs-are [] = refl
 pairs-are (t ∷ []) = refl
 pairs-are (s ∷ t ∷ ts) = ap (λ (l : List ℕ). rowCount s ∷ rowCount t ∷ l) (pairs-are (t ∷ ts))
 
-pub resolved-count : (text : Bytes) (t : Table Span) → rowCount (resolveTable text t) ≡ rowCount t
-resolved-count text [] = refl
-resolved-count text (r ∷ t) = omega (arith, size-resolve text (r .body), resolved-count text t)
-
 -- the table that the steps left, as the outputs are to hold it
-pub ran-covers : {ns : List ℕ} {q : Place} {count : ℕ} {ts : List (Table Bytes)} {os o s os′ o′ s′ : List ℕ} → AtLeast os′ o′ s′ → Sized os o s → count ≡ length (lastOf ts) * 4 → Ran ns q ts os o s → Covers count q os o s os′ o′ s′
-ran-covers l z e r =
-    let w = front-within _ (r .front) in
+pub ran-covers : {ns : List ℕ} {q : Place} {count : ℕ} {ts : List (Table Bytes)} {os o s os′ o′ s′ : List ℕ} → AtLeast os′ o′ s′ → count ≤ 1024 → count ≡ length (lastOf ts) * ruleWidth → Ran ns q ts os o s → Covers count q os o s os′ o′ s′
+ran-covers {ts = ts} l c e r =
+    let w = front-within (lastOf ts) (r .front) in
+    let h : tooLarge (lastOf ts) ≡ false = last-fits ts (r .fits) in
     record {
       heads = omega (arith, w .0, e);
       rows = w .1;
       text = w .2;
-      out-rules = omega (arith, w .0, e, z .rules, l .rules);
-      out-rows = omega (arith, w .1, z .rows, l .rows);
-      out-text = omega (arith, w .2, z .text, l .text);
+      out-rules = omega (arith, c, l .rules);
+      out-rows = omega (arith, r .front .rows, few-rows (lastOf ts) h, l .rows);
+      out-text = omega (arith, r .front .text, few-bytes (lastOf ts) h, l .text);
     }
-
-seventh-count : (t : Table Bytes) (n : ℕ) → n ≡ length (lastOf (firstFive t)) * 4 → n ≡ length (lastOf (allSeven t)) * 4
-seventh-count t n e =
-    let t5 : Table Bytes = lastOf (firstFive t) in
-    let t6 : Table Bytes = after 6 t5 t5 in
-    omega (arith, e, each-length (stepOf 6 t5) t5, each-length (stepOf 7 t6) t6)
 
 -- what a finished call says of itself
 pub record Said (r : Answer) (count first i j k l m n : ℕ) (q : Place) : Type 0 where
   pub number : r .number ≡ 0
-  pub rules : r .rules ≡ count / 4
+  pub rules : r .rules ≡ count / ruleWidth
   pub rows : r .rows ≡ q .rows
   pub text : r .text ≡ q .text
   pub report : r .report ≡ first ∷ i ∷ i ∷ j ∷ j ∷ k ∷ k ∷ l ∷ l ∷ m ∷ m ∷ n ∷ n ∷ q .rows ∷ []
@@ -143,7 +133,7 @@ pub record Said (r : Answer) (count first i j k l m n : ℕ) (q : Place) : Type 
 answer-same : {number rules rows text : ℕ} {report os o s : List ℕ} (w : whole.Answer) → number ≡ w .number → rules ≡ w .rules → rows ≡ w .rows → text ≡ w .text → report ≡ w .report → os ≡ w .out .rules → o ≡ w .out .rows → s ≡ w .out .text → _≡_ {A = whole.Answer} (record { number = number; rules = rules; rows = rows; text = text; report = report; out = lent os o s }) w
 answer-same w a b c d e f g h = rw (a, b, c, d, e, f, g, h) refl
 
-pub finished-seen : {r : Answer} {count first i j k l m n : ℕ} {q : Place} (t : Table Bytes) (os o s : List ℕ) {os₁ o₁ s₁ os′ o′ s′ : List ℕ} → Said r count first i j k l m n q → tooLarge t ≡ false → first ≡ rowCount t → count ≡ length (lastOf (allSeven t)) * 4 → Ran (i ∷ j ∷ k ∷ l ∷ m ∷ n ∷ q .rows ∷ []) q (allSeven t) os₁ o₁ s₁ → os′ ≡ over (take count os₁) os → o′ ≡ over (take (q .rows * 4) o₁) o → s′ ≡ over (take (q .text) s₁) s → seen r (lent os′ o′ s′) ≡ answer (lent os o s) (finish (stages t))
+pub finished-seen : {r : Answer} {count first i j k l m n : ℕ} {q : Place} (t : Table Bytes) (os o s : List ℕ) {os₁ o₁ s₁ os′ o′ s′ : List ℕ} → Said r count first i j k l m n q → tooLarge t ≡ false → first ≡ rowCount t → count ≡ length (lastOf (allSeven t)) * ruleWidth → Ran (i ∷ j ∷ k ∷ l ∷ m ∷ n ∷ q .rows ∷ []) q (allSeven t) os₁ o₁ s₁ → os′ ≡ over (take count os₁) os → o′ ≡ over (take (q .rows * rowWidth) o₁) o → s′ ≡ over (take (q .text) s₁) s → seen r (lent os′ o′ s′) ≡ answer (lent os o s) (finish (stages t))
 finished-seen {r} {count} {first} {i} {j} {k} {l} {m} {n} {q} t os o s {os₁} {o₁} {s₁} said h f c ran a b d =
     let u : Table Bytes = lastOf (allSeven t) in
     let fr : Front q u os₁ o₁ s₁ = ran .front in
@@ -152,13 +142,41 @@ finished-seen {r} {count} {first} {i} {j} {k} {l} {m} {n} {q} t os o s {os₁} {
     answer-same (answer (lent os o s) (whole.finished (pairs (t ∷ allSeven t)) u)) (said .number) (said .rules ∙ omega (arith, c)) (said .rows ∙ fr .rows) (said .text ∙ fr .text) (said .report ∙ sym counts) (a ∙ ap (λ (x : List ℕ). over x os) heads) (b ∙ ap (λ (x : List ℕ). over x o) (fr .row-words)) (d ∙ ap (λ (x : List ℕ). over x s) (fr .bytes))
     ∙ ap (answer (lent os o s)) (sym (steps-fit t h (ran .fits)))
 
--- the rows before the first step
+-- the rows before the first step, and the rules after the last
 module _ {rules rows : List ℕ} {text : Bytes} {marks : List ℕ} (r : Ready rules rows text marks) where
-  pub rows-before : (t : Table Span) → Lent t rules rows → length rows / 4 ≡ rowCount (resolveTable text t)
-  rows-before t l = omega (arith, ap length (l .rows), rows-length t, resolved-count text t)
+  abbrev read : Table Bytes
+  read = resolveTable text (r .given .table)
 
-  pub rows-few : (t : Table Span) → Lent t rules rows → length rows / 4 ≤ 4096
-  rows-few t l = omega (arith, rows-before t l, few-rows (resolveTable text t) (r .fits t l))
+  pub rows-before : length rows / rowWidth ≡ rowCount read
+  rows-before = omega (arith, ap length (r .given .lent .trees), rows-length (r .given .table), resolved-count text (r .given .table))
 
-  pub rules-after : (t : Table Span) → Lent t rules rows → length rules ≡ length (lastOf (allSeven (resolveTable text t))) * 4
-  rules-after t l = seventh-count (resolveTable text t) (length rules) (fifth-count r t l)
+  pub read-fits : tooLarge read ≡ false
+  read-fits = r .fits (r .given .table) (r .given .lent)
+
+  pub rows-few : length rows / rowWidth ≤ 4096
+  rows-few = omega (arith, rows-before, few-rows read read-fits)
+
+  pub rules-after : length rules ≡ length (lastOf (allSeven read)) * ruleWidth
+  rules-after = restored-count r (r .given .table) (ready-lent r)
+
+-- work areas that are longer than full size
+longer : (n : ℕ) (new old : List ℕ) → n ≤ length new → take n (new ++ old) ≡ take n new
+longer n new old h = take-append-le n new old h
+
+pub answer-longer : (a : Seven) (ts : List (Table Bytes)) (os o s x y z : List ℕ) → SevenAnswer a ts os o s → SevenAnswer a ts (os ++ x) (o ++ y) (s ++ z)
+answer-longer (seven.Done i j k l m n q) ts os o s x y z r =
+    let f : Front q (lastOf ts) os o s = r .front in
+    let w = front-within (lastOf ts) f in
+    record {
+      counts = r .counts;
+      fits = r .fits;
+      front =
+          record {
+            rows = f .rows;
+            text = f .text;
+            rule-words = longer (length (lastOf ts) * ruleWidth) os x (w .0) ∙ f .rule-words;
+            row-words = longer (q .rows * rowWidth) o y (w .1) ∙ f .row-words;
+            bytes = longer (q .text) s z (w .2) ∙ f .bytes;
+          };
+    }
+answer-longer seven.Full ts os o s x y z r = r

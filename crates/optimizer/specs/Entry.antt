@@ -1,18 +1,10 @@
 -- The whole call: its answer as the caller sees it. Assumes nothing.
-use mathlib.Core.Path.{_≡_}
-use mathlib.Core.Bool.{false}
 use mathlib.Core.List.{List}
 use Prim.Native.Nat.{ℕ, _≤_, _<_, _^_}
 use lib.ListN.{length}
-use Rattle.grammar.specs.Basic.{Bytes}
-use Rattle.grammar.specs.Rows.{Span}
-use Rattle.grammar.specs.Table.{Table, Words, resolveTable}
-use Rattle.grammar.specs.Refusals.{zeroCounts}
+use Rattle.grammar.specs.Table.{Words}
 use Rattle.grammar.specs.Optimize as grammar
 use Rattle.writing.specs.declared.Place.{Place}
-use Rattle.skipper.specs.Lends.{Given}
-use Rattle.skipper.specs.Lists.{Lists}
-use Rattle.passes.specs.Passes.{Lent}
 use Rattle.optimizer.specs.declared.Answer.{Answer}
 
 -- the answer by value and the output areas afterwards
@@ -44,11 +36,3 @@ pub record Small (count n n1 n2 n3 n4 n5 n6 : ℕ) (p : Place) : Type 0 where
   pub seventh : n6 < 2 ^ 32
   pub rows : p .rows < 2 ^ 32
   pub text : p .text < 2 ^ 32
-
--- a table past refusal 7, with the marks that settle its skip lists
-pub record Readable (rules rows : List ℕ) (text : Bytes) (marks : List ℕ) : Type 0 where
-  pub given : Given rules rows text marks
-  pub few : length rules ≤ 1024
-  pub short : length rows ≤ 16384
-  pub zeros : (t : Table Span) → Lent t rules rows → zeroCounts (resolveTable text t) ≡ false
-  pub lists : (t : Table Span) → Lent t rules rows → Lists (resolveTable text t) marks

@@ -1,22 +1,28 @@
 // The whole call.
 ghost use mathlib.Core.Path.{_≡_};
-ghost use mathlib.Core.Bool.{_||_};
 ghost use mathlib.Core.List.{[], _∷_};
-ghost use Prim.Native.Nat.{_/_, _≤_};
-ghost use lib.ListN.{length};
+ghost use Prim.Native.Nat.{_/_};
+ghost use Rattle.grammar.specs.Numbers.{ruleWidth};
 ghost use Rattle.grammar.specs.Rows.{Span};
 ghost use Rattle.grammar.specs.Table.{Table, Words, resolveTable};
-ghost use Rattle.grammar.specs.Refusals.{short, shortMarks};
-ghost use Rattle.grammar.specs.Optimize.{answer, ofWords, finish, stages, optimize};
+ghost use Rattle.grammar.specs.Optimize.{answer, optimize};
 ghost use Rattle.grammar.specs.Optimize as result;
-ghost use Rattle.refusals.specs.Check.{lent, Passed};
+ghost use Rattle.refusals.specs.Check.{lent};
 ghost use Rattle.passes.specs.Passes.{Lent};
-ghost use Rattle.turns.specs.Chain.{Ready, Works};
-ghost use Rattle.optimizer.specs.Entry.{seen, AtLeast, Lengths, Small, Readable};
-use refusals::Verdict;
-use skipper::Readings;
+ghost use Rattle.admission.specs.Ready.{Ready};
+ghost use Rattle.turns.specs.Chain.{SevenAnswer, allSeven};
+ghost use Rattle.optimizer.specs.Entry.{seen, AtLeast, Small};
+use grammar::REFUSED_FULL;
+use grammar::ROW_WIDTH;
+use grammar::RULE_WIDTH;
+use refusals::FULL_ROWS;
+use refusals::FULL_RULES;
+use refusals::FULL_TEXT;
 use turns::Seven;
 use writing::Place;
+
+// Rows before and after each of the seven steps.
+pub const REPORT: usize = 14;
 
 // The whole answer: the refusal's number or 0, the counts, and for each step the rows before and after it.
 pub struct Answer {
@@ -24,7 +30,7 @@ pub struct Answer {
     pub rules: u32,
     pub rows: u32,
     pub text: u32,
-    pub report: [u32; 14],
+    pub report: [u32; REPORT],
 }
 
 // A refusal: its number, zero counts and a zero report.
@@ -36,7 +42,7 @@ fn refused(number: u32) -> Answer
         rules: 0,
         rows: 0,
         text: 0,
-        report: [0u32; 14],
+        report: [0u32; REPORT],
     }
 }
 
@@ -53,7 +59,7 @@ fn finished(
     p: Place,
 ) -> Answer
     requires { ⌜ Small count n n1 n2 n3 n4 n5 n6 p ⌝ }
-    ensures { λ r. ⌜ (r .number ≡ 0) × (r .rules ≡ count / 4) × (r .rows ≡ p .rows) × (r .text ≡ p .text) × (r .report ≡ n ∷ n1 ∷ n1 ∷ n2 ∷ n2 ∷ n3 ∷ n3 ∷ n4 ∷ n4 ∷ n5 ∷ n5 ∷ n6 ∷ n6 ∷ p .rows ∷ []) ⌝ }
+    ensures { λ r. ⌜ (r .number ≡ 0) × (r .rules ≡ count / ruleWidth) × (r .rows ≡ p .rows) × (r .text ≡ p .text) × (r .report ≡ n ∷ n1 ∷ n1 ∷ n2 ∷ n2 ∷ n3 ∷ n3 ∷ n4 ∷ n4 ∷ n5 ∷ n5 ∷ n6 ∷ n6 ∷ p .rows ∷ []) ⌝ }
 {
     let a = n as u32;
     let b = n1 as u32;
@@ -63,7 +69,7 @@ fn finished(
     let f = n5 as u32;
     let g = n6 as u32;
     let h = p.rows as u32;
-    let rules = count / 4;
+    let rules = count / RULE_WIDTH;
     Answer {
         number: 0,
         rules: rules as u32,
@@ -73,212 +79,36 @@ fn finished(
     }
 }
 
-// The seven steps in work areas of full size, and the last table copied out.
-fn run(
+// The seven steps in the fronts of the work areas, of just full size.
+fn steps(
     rules: &[u32],
     rows: &[u32],
     text: &[u8],
-    out_rules: &mut [u32],
-    out_rows: &mut [u32],
-    out_text: &mut [u8],
+    marks: &mut [u32],
     a_rules: &mut [u32],
     a_rows: &mut [u32],
     a_text: &mut [u8],
     b_rules: &mut [u32],
     b_rows: &mut [u32],
     b_text: &mut [u8],
-    marks: &mut [u32],
-) -> Answer
+) -> Seven
     requires { ⌜ Ready (now rules) (now rows) (now text) (now marks) ⌝ }
-    requires { ⌜ AtLeast (now «out_rules») (now «out_rows») (now «out_text») ⌝ }
-    requires { ⌜ Works (now «a_rules») (now «a_rows») (now «a_text») (now «b_rules») (now «b_rows») (now «b_text») ⌝ }
-    ensures { λ r. ⌜ ((t : Table Span) → Lent t (now (rules .entry)) (now (rows .entry)) → seen r (lent (now («out_rules» .exit)) (now («out_rows» .exit)) (now («out_text» .exit))) ≡ answer (lent (now («out_rules» .entry)) (now («out_rows» .entry)) (now («out_text» .entry))) (finish (stages (resolveTable (now (text .entry)) t)))) ⌝ }
+    requires { ⌜ AtLeast (now «a_rules») (now «a_rows») (now «a_text») ⌝ }
+    requires { ⌜ AtLeast (now «b_rules») (now «b_rows») (now «b_text») ⌝ }
+    ensures { λ s. ⌜ ((t : Table Span) → Lent t (now (rules .entry)) (now (rows .entry)) → SevenAnswer s (allSeven (resolveTable (now (text .entry)) t)) (now («a_rules» .exit)) (now («a_rows» .exit)) (now («a_text» .exit))) ⌝ }
 {
-    let Seven::Done(n1, n2, n3, n4, n5, n6, p) = turns::all_steps(
+    turns::all_steps(
         rules,
         rows,
         text,
         marks,
-        a_rules,
-        a_rows,
-        a_text,
-        b_rules,
-        b_rows,
-        b_text,
-    ) else {
-        return refused(8);
-    };
-    let count = rules.len();
-    packing::put_out(
-        count,
-        p,
-        a_rules,
-        a_rows,
-        a_text,
-        out_rules,
-        out_rows,
-        out_text,
-    );
-    finished(count, rows.len() / 4, n1, n2, n3, n4, n5, n6, p)
-}
-
-// Refusal 8 of the input, then the steps in the fronts of the work areas.
-fn fit(
-    rules: &[u32],
-    rows: &[u32],
-    text: &[u8],
-    out_rules: &mut [u32],
-    out_rows: &mut [u32],
-    out_text: &mut [u8],
-    a_rules: &mut [u32],
-    a_rows: &mut [u32],
-    a_text: &mut [u8],
-    b_rules: &mut [u32],
-    b_rows: &mut [u32],
-    b_text: &mut [u8],
-    marks: &mut [u32],
-) -> Answer
-    requires { ⌜ Readable (now rules) (now rows) (now text) (now marks) ⌝ }
-    requires { ⌜ Lengths (now «out_rules») (now «out_rows») (now «out_text») (now «a_rules») (now «a_rows») (now «a_text») (now «b_rules») (now «b_rows») (now «b_text») (now marks) ⌝ }
-    ensures { λ r. ⌜ ((t : Table Span) → Lent t (now (rules .entry)) (now (rows .entry)) → seen r (lent (now («out_rules» .exit)) (now («out_rows» .exit)) (now («out_text» .exit))) ≡ answer (lent (now («out_rules» .entry)) (now («out_rows» .entry)) (now («out_text» .entry))) (finish (stages (resolveTable (now (text .entry)) t)))) ⌝ }
-{
-    if 65536 < packing::text_size(rules, rows) {
-        return refused(8);
-    }
-    run(
-        rules,
-        rows,
-        text,
-        out_rules,
-        out_rows,
-        out_text,
-        &mut a_rules[..1024],
-        &mut a_rows[..16384],
-        &mut a_text[..65536],
-        &mut b_rules[..1024],
-        &mut b_rows[..16384],
-        &mut b_text[..65536],
-        marks,
+        &mut a_rules[..FULL_RULES],
+        &mut a_rows[..FULL_ROWS],
+        &mut a_text[..FULL_TEXT],
+        &mut b_rules[..FULL_RULES],
+        &mut b_rows[..FULL_ROWS],
+        &mut b_text[..FULL_TEXT],
     )
-}
-
-// Refusal 7, then the rest.
-fn read(
-    rules: &[u32],
-    rows: &[u32],
-    text: &[u8],
-    out_rules: &mut [u32],
-    out_rows: &mut [u32],
-    out_text: &mut [u8],
-    a_rules: &mut [u32],
-    a_rows: &mut [u32],
-    a_text: &mut [u8],
-    b_rules: &mut [u32],
-    b_rows: &mut [u32],
-    b_text: &mut [u8],
-    marks: &mut [u32],
-) -> Answer
-    requires { ⌜ Passed (lent (now rules) (now rows) (now text)) (now marks) ⌝ }
-    requires { ⌜ Lengths (now «out_rules») (now «out_rows») (now «out_text») (now «a_rules») (now «a_rows») (now «a_text») (now «b_rules») (now «b_rows») (now «b_text») (now marks) ⌝ }
-    ensures { λ r. ⌜ seen r (lent (now («out_rules» .exit)) (now («out_rows» .exit)) (now («out_text» .exit))) ≡ answer (lent (now («out_rules» .entry)) (now («out_rows» .entry)) (now («out_text» .entry))) (ofWords (lent (now (rules .entry)) (now (rows .entry)) (now (text .entry)))) ⌝ }
-{
-    match skipper::read_lists(rules, rows, text, marks) {
-        Readings::Again => refused(7),
-        Readings::Read => fit(
-            rules,
-            rows,
-            text,
-            out_rules,
-            out_rows,
-            out_text,
-            a_rules,
-            a_rows,
-            a_text,
-            b_rules,
-            b_rows,
-            b_text,
-            marks,
-        ),
-    }
-}
-
-// Refusals 2 to 6, then the rest.
-fn check(
-    rules: &[u32],
-    rows: &[u32],
-    text: &[u8],
-    out_rules: &mut [u32],
-    out_rows: &mut [u32],
-    out_text: &mut [u8],
-    a_rules: &mut [u32],
-    a_rows: &mut [u32],
-    a_text: &mut [u8],
-    b_rules: &mut [u32],
-    b_rows: &mut [u32],
-    b_text: &mut [u8],
-    marks: &mut [u32],
-) -> Answer
-    requires { ⌜ Lengths (now «out_rules») (now «out_rows») (now «out_text») (now «a_rules») (now «a_rows») (now «a_text») (now «b_rules») (now «b_rows») (now «b_text») (now marks) ⌝ }
-    ensures { λ r. ⌜ seen r (lent (now («out_rules» .exit)) (now («out_rows» .exit)) (now («out_text» .exit))) ≡ answer (lent (now («out_rules» .entry)) (now («out_rows» .entry)) (now («out_text» .entry))) (ofWords (lent (now (rules .entry)) (now (rows .entry)) (now (text .entry)))) ⌝ }
-{
-    match refusals::check(rules, rows, text, marks) {
-        Verdict::Refused(n) => refused(n),
-        Verdict::Fine => read(
-            rules,
-            rows,
-            text,
-            out_rules,
-            out_rows,
-            out_text,
-            a_rules,
-            a_rows,
-            a_text,
-            b_rules,
-            b_rows,
-            b_text,
-            marks,
-        ),
-    }
-}
-
-// Whether an output or work table is below full size.
-fn is_short(rules: &[u32], rows: &[u32], text: &[u8]) -> bool
-    ensures { λ r. ⌜ r ≡ short (lent (now (rules .entry)) (now (rows .entry)) (now (text .entry))) ⌝ }
-{
-    if rules.len() < 1024 {
-        return true;
-    }
-    if rows.len() < 16384 {
-        return true;
-    }
-    text.len() < 65536
-}
-
-// Whether any of the ten areas is.
-fn any_short(
-    out_rules: &[u32],
-    out_rows: &[u32],
-    out_text: &[u8],
-    a_rules: &[u32],
-    a_rows: &[u32],
-    a_text: &[u8],
-    b_rules: &[u32],
-    b_rows: &[u32],
-    b_text: &[u8],
-    marks: &[u32],
-) -> bool
-    ensures { λ r. ⌜ r ≡ (short (lent (now («out_rules» .entry)) (now («out_rows» .entry)) (now («out_text» .entry))) || (short (lent (now («a_rules» .entry)) (now («a_rows» .entry)) (now («a_text» .entry))) || (short (lent (now («b_rules» .entry)) (now («b_rows» .entry)) (now («b_text» .entry))) || shortMarks (now (marks .entry))))) ⌝ }
-{
-    if is_short(out_rules, out_rows, out_text) {
-        return true;
-    }
-    if is_short(a_rules, a_rows, a_text) {
-        return true;
-    }
-    if is_short(b_rules, b_rows, b_text) {
-        return true;
-    }
-    marks.len() < 1024
 }
 
 // Rewrites the rules, rows and text of a table into the three outputs, by the seven steps: any input gets a finished table or the lowest
@@ -300,33 +130,46 @@ pub fn optimize(
 ) -> Answer
     ensures { λ r. ⌜ seen r (lent (now («out_rules» .exit)) (now («out_rows» .exit)) (now («out_text» .exit))) ≡ optimize (lent (now (rules .entry)) (now (rows .entry)) (now (text .entry))) (lent (now («out_rules» .entry)) (now («out_rows» .entry)) (now («out_text» .entry))) (lent (now («a_rules» .entry)) (now («a_rows» .entry)) (now («a_text» .entry))) (lent (now («b_rules» .entry)) (now («b_rows» .entry)) (now («b_text» .entry))) (now (marks .entry)) ⌝ }
 {
-    if any_short(
-        out_rules,
-        out_rows,
-        out_text,
-        a_rules,
-        a_rows,
-        a_text,
-        b_rules,
-        b_rows,
-        b_text,
-        marks,
-    ) {
-        return refused(1);
+    let short = admission::any_short(
+        out_rules.len(),
+        out_rows.len(),
+        out_text.len(),
+        a_rules.len(),
+        a_rows.len(),
+        a_text.len(),
+        b_rules.len(),
+        b_rows.len(),
+        b_text.len(),
+        marks.len(),
+    );
+    let number = admission::refusal(short, rules, rows, text, marks);
+    if number != 0 {
+        return refused(number);
     }
-    check(
+    let Seven::Done(n1, n2, n3, n4, n5, n6, p) = steps(
         rules,
         rows,
         text,
-        out_rules,
-        out_rows,
-        out_text,
+        marks,
         a_rules,
         a_rows,
         a_text,
         b_rules,
         b_rows,
         b_text,
-        marks,
-    )
+    ) else {
+        return refused(REFUSED_FULL);
+    };
+    let count = rules.len();
+    packing::put_out(
+        count,
+        p,
+        a_rules,
+        a_rows,
+        a_text,
+        out_rules,
+        out_rows,
+        out_text,
+    );
+    finished(count, rows.len() / ROW_WIDTH, n1, n2, n3, n4, n5, n6, p)
 }

@@ -6,6 +6,7 @@ use native.Mathlib.Numerals.{add-one}
 use native.Mathlib.Omega.{arith}
 use lib.ListN.{length, getD, drop, length-drop, length-append}
 use lib.Seq.{drop-cons, getD-append-add}
+use Rattle.grammar.specs.Numbers.{rowWidth}
 use Rattle.grammar.specs.Basic.{Bytes}
 use Rattle.grammar.specs.Tree as tree
 use Rattle.grammar.specs.Tree.{Bin, Expr, Fixed, Lit, Un, bin, binKind, fixed, fixedHead, lit, litKind, size, skip, un, unHead}
@@ -31,15 +32,15 @@ four w j h =
 
 -- ---- a walk over the rules or rows of the words w: what was summed is the sum without the words from i on
 
-module _ (f : ℕ → ℕ → ℕ → ℕ) (w : List ℕ) (i sum : ℕ) (so-far : sum + sumFour f (drop (i * 4) w) ≡ sumFour f w) where
-  pub sum-more : (r : ℕ) → i * 4 + 4 ≤ length w → r ≡ f (getD w (i * 4) 0) (getD w (i * 4 + 1) 0) (getD w (i * 4 + 2) 0) → sum + r + sumFour f (drop ((i + 1) * 4) w) ≡ sumFour f w
+module _ (f : ℕ → ℕ → ℕ → ℕ) (w : List ℕ) (i sum : ℕ) (so-far : sum + sumFour f (drop (i * rowWidth) w) ≡ sumFour f w) where
+  pub sum-more : (r : ℕ) → i * rowWidth + rowWidth ≤ length w → r ≡ f (getD w (i * rowWidth) 0) (getD w (i * rowWidth + 1) 0) (getD w (i * rowWidth + 2) 0) → sum + r + sumFour f (drop ((i + 1) * rowWidth) w) ≡ sumFour f w
   sum-more r h e =
-      let n : i * 4 + 4 ≡ (i + 1) * 4 = omega arith in
-      let d : sumFour f (drop (i * 4) w) ≡ f (getD w (i * 4) 0) (getD w (i * 4 + 1) 0) (getD w (i * 4 + 2) 0) + sumFour f (drop (i * 4 + 4) w) = ap (sumFour f) (four w (i * 4) h) in
+      let n : i * rowWidth + rowWidth ≡ (i + 1) * rowWidth = omega arith in
+      let d : sumFour f (drop (i * rowWidth) w) ≡ f (getD w (i * rowWidth) 0) (getD w (i * rowWidth + 1) 0) (getD w (i * rowWidth + 2) 0) + sumFour f (drop (i * rowWidth + rowWidth) w) = ap (sumFour f) (four w (i * rowWidth) h) in
       rw (← n) (omega (arith, so-far, d, e))
 
-  pub sum-done : length w ≤ i * 4 + 3 → sum ≡ sumFour f w
-  sum-done h = omega (arith, so-far, short (drop (i * 4) w) (omega (arith, length-drop (i * 4) w)))
+  pub sum-done : length w ≤ i * rowWidth + 3 → sum ≡ sumFour f w
+  sum-done h = omega (arith, so-far, short (drop (i * rowWidth) w) (omega (arith, length-drop (i * rowWidth) w)))
     where
       short : (v : List ℕ) → length v ≤ 3 → sumFour f v ≡ 0
       short [] l = refl
@@ -52,18 +53,18 @@ module _ (f : ℕ → ℕ → ℕ → ℕ) (w : List ℕ) (i sum : ℕ) (so-far 
 
 names-rest : (n o l y k : ℕ) (rs : List ℕ) → NamesInside (o ∷ l ∷ y ∷ k ∷ rs) n → NamesInside rs n
 names-rest n o l y k rs ni i h =
-    let e : (i + 1) * 4 ≡ suc (suc (suc (suc (i * 4)))) = omega arith in
-    let e₁ : (i + 1) * 4 + 1 ≡ suc (suc (suc (suc (i * 4 + 1)))) = omega arith in
+    let e : (i + 1) * rowWidth ≡ suc (suc (suc (suc (i * rowWidth)))) = omega arith in
+    let e₁ : (i + 1) * rowWidth + 1 ≡ suc (suc (suc (suc (i * rowWidth + 1)))) = omega arith in
     rw (e₁, e) at (ni (i + 1) (omega arith))
 
-rows-rest : (n : ℕ) (u v : List ℕ) (k : ℕ) → length u ≡ k * 4 → Inside (u ++ v) n → Inside v n
+rows-rest : (n : ℕ) (u v : List ℕ) (k : ℕ) → length u ≡ k * rowWidth → Inside (u ++ v) n → Inside v n
 unfolding kindAt xAt yAt
 rows-rest n u v k l ins i h s =
-    let z : (k + i) * 4 ≡ length u + i * 4 = omega arith in
-    let z₁ : (k + i) * 4 + 1 ≡ length u + (i * 4 + 1) = omega arith in
-    let z₂ : (k + i) * 4 + 2 ≡ length u + (i * 4 + 2) = omega arith in
-    let q : kindAt (u ++ v) (k + i) ≡ kindAt v i = rw z (getD-append-add u v (i * 4) 0) in
-    rw (z₁, z₂, getD-append-add u v (i * 4 + 1) 0, getD-append-add u v (i * 4 + 2) 0) at (ins (k + i) (omega (arith, length-append u v)) (ap shapeOf q ∙ s))
+    let z : (k + i) * rowWidth ≡ length u + i * rowWidth = omega arith in
+    let z₁ : (k + i) * rowWidth + 1 ≡ length u + (i * rowWidth + 1) = omega arith in
+    let z₂ : (k + i) * rowWidth + 2 ≡ length u + (i * rowWidth + 2) = omega arith in
+    let q : kindAt (u ++ v) (k + i) ≡ kindAt v i = rw z (getD-append-add u v (i * rowWidth) 0) in
+    rw (z₁, z₂, getD-append-add u v (i * rowWidth + 1) 0, getD-append-add u v (i * rowWidth + 2) 0) at (ins (k + i) (omega (arith, length-append u v)) (ap shapeOf q ∙ s))
 
 -- ---- a tree's rows
 

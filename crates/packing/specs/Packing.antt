@@ -4,6 +4,7 @@ use mathlib.Core.List.{List, [], _∷_}
 use Prim.Native.Nat.{ℕ, _+_, _*_, _≤_}
 use lib.Dec.{eqb, ltb}
 use lib.ListN.{length}
+use Rattle.grammar.specs.Numbers.{rowWidth, kRange, kIdent}
 use Rattle.writing.specs.declared.Place.{Place}
 
 -- the sum over rules or rows of something of their first three words
@@ -20,7 +21,7 @@ nameLength x n y = n
 
 -- the length of a row's literal, which kinds 0, 1 and 3 have
 unfoldable pub litLength : ℕ → ℕ → ℕ
-litLength k y = cond (ltb k 2) y (cond (eqb k 3) y 0)
+litLength k y = cond (ltb k kRange) y (cond (eqb k kIdent) y 0)
 
 abbrev pub rowLength : ℕ → ℕ → ℕ → ℕ
 rowLength k x y = litLength k y
@@ -28,8 +29,8 @@ rowLength k x y = litLength k y
 -- n words of rules, and rows and text up to p, are in the areas hs, ws, s and have room in the areas os, o, l
 pub record Covers (n : ℕ) (p : Place) (hs ws s os o l : List ℕ) : Type 0 where
   pub heads : n ≤ length hs
-  pub rows : p .rows * 4 ≤ length ws
+  pub rows : p .rows * rowWidth ≤ length ws
   pub text : p .text ≤ length s
   pub out-rules : n ≤ length os
-  pub out-rows : p .rows * 4 ≤ length o
+  pub out-rows : p .rows * rowWidth ≤ length o
   pub out-text : p .text ≤ length l

@@ -4,6 +4,7 @@ use mathlib.Core.List.{List, [], _∷_, _++_, append-assoc}
 use Prim.Native.Nat.{ℕ, _+_, _*_, _/_, _≤_, _<_}
 use native.Mathlib.Omega.{arith}
 use lib.ListN.{length, take, drop, length-append, length-take}
+use Rattle.grammar.specs.Numbers.{ruleWidth, rowWidth}
 use Rattle.grammar.proofs.Packing.{packed-size}
 use Rattle.rows.proofs.Laws.{length-flat}
 use Rattle.grammar.specs.Basic.{Bytes}
@@ -46,7 +47,7 @@ no-tree {a} {q} {p} {s} {t} {t₁} t₂ e o o′ l n k h f =
     (record { rows = omega (arith, f .rows, n .rows); text = omega (arith, f .text, n .text, length-append s (textOf e)) })
 
 -- a rule's name, its tree and its words
-pub rule-kept : {r q p : Place} {i y n m : ℕ} {s t t₁ t₂ : List ℕ} {e : E} {os os′ o o′ : List ℕ} → NamePut q p s t t₁ → Kept r q e o o′ t₁ t₂ → n ≡ length s → m ≡ size e → os′ ≡ stored os (i * 4) (row (p .text, n, y) m) → RuleKept r p i y s e os os′ o o′ t t₂
+pub rule-kept : {r q p : Place} {i y n m : ℕ} {s t t₁ t₂ : List ℕ} {e : E} {os os′ o o′ : List ℕ} → NamePut q p s t t₁ → Kept r q e o o′ t₁ t₂ → n ≡ length s → m ≡ size e → os′ ≡ stored os (i * ruleWidth) (row (p .text, n, y) m) → RuleKept r p i y s e os os′ o o′ t t₂
 rule-kept {r} {q} {p} {i} {y} {n} {m} {s} {t} {t₁} {t₂} {e} {os} {os′} {o} {o′} a b u v w =
     record {
       rows = omega (arith, a .rows, b .rows);
@@ -69,11 +70,11 @@ name-room n r =
     record { rows = omega (arith, r .rows, n .rows); text = omega (arith, n .text, n .fits, l); areas = record { words = r .areas .words; bytes = omega (arith, r .areas .bytes, l) } }
 
 -- what stands up to a place lies in the area
-pub kept-within : {q p : Place} {e : E} {o o′ t t′ : List ℕ} → p .rows ≤ length o / 4 → Kept q p e o o′ t t′ → q .rows * 4 ≤ length o′
+pub kept-within : {q p : Place} {e : E} {o o′ t t′ : List ℕ} → p .rows ≤ length o / rowWidth → Kept q p e o o′ t t′ → q .rows * rowWidth ≤ length o′
 kept-within {q} {p} {e} {o} {o′} h k =
-    let a : length (take (q .rows * 4) o′) ≡ length (take (p .rows * 4) o) + size e * 4 =
-    ap length (k .words) ∙ length-append (take (p .rows * 4) o) (flat (packed (p .text) e)) ∙ ap (λ (n : ℕ). length (take (p .rows * 4) o) + n) (length-flat (packed (p .text) e) ∙ ap (λ (n : ℕ). n * 4) (packed-size (p .text) e)) in
-    omega (arith, a, k .rows, length-take (q .rows * 4) o′, length-take (p .rows * 4) o)
+    let a : length (take (q .rows * rowWidth) o′) ≡ length (take (p .rows * rowWidth) o) + size e * rowWidth =
+    ap length (k .words) ∙ length-append (take (p .rows * rowWidth) o) (flat (packed (p .text) e)) ∙ ap (λ (n : ℕ). length (take (p .rows * rowWidth) o) + n) (length-flat (packed (p .text) e) ∙ ap (λ (n : ℕ). n * 4) (packed-size (p .text) e)) in
+    omega (arith, a, k .rows, length-take (q .rows * rowWidth) o′, length-take (p .rows * rowWidth) o)
 
 -- what is asked of the rule is asked of its tree, after its name
 pub prepared : {q p : Place} {s t t′ : List ℕ} {step type : ℕ} {rs₀ ws₀ : List ℕ} {text₀ : Bytes} {marks ws : List ℕ} {text : Bytes} {root : ℕ} {o : List ℕ} → NamePut q p s t t′ → RulePrepared step type rs₀ ws₀ text₀ marks ws text root p s o t → Prepared step type rs₀ ws₀ text₀ marks ws text root q o t′

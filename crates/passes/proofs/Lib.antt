@@ -5,3 +5,4 @@ pub mod Growth
 pub mod Loops
 pub mod Walks
 pub mod Calms
+pub mod Stills

@@ -4,6 +4,7 @@ use mathlib.Core.List.{List, [], _∷_, _++_}
 use Prim.Native.Nat.{ℕ, _+_, _-_, _*_, _/_, _≤_, _<_}
 use native.Mathlib.Omega.{arith}
 use lib.ListN.{length, take, getD, length-append, length-take}
+use Rattle.grammar.specs.Numbers.{ruleWidth, lengthWord, typeWord, rowsWord, rowWidth}
 use Rattle.grammar.specs.Basic.{Bytes}
 use Rattle.grammar.specs.Tree.{E, Expr, size}
 use mathlib.Core.Bool.{Bool, false}
@@ -46,9 +47,9 @@ loop-start step rs₀ ws₀ text₀ rs ws text os o s p a b r =
 pub record Here (ts : Table Span) (rs ws : List ℕ) (text : Bytes) (i end : ℕ) : Type 0 where
   pub rule : Rule Span
   pub next : Next ts rs ws text i end rule
-  pub bound : (end + size (rule .body)) * 4 ≤ length ws
+  pub bound : (end + size (rule .body)) * rowWidth ≤ length ws
 
-module _ {step : ℕ} {rs₀ ws₀ : List ℕ} {text₀ : Bytes} {rs ws : List ℕ} {text : Bytes} {os₀ o₀ s₀ os o s : List ℕ} {p : Place} {end i : ℕ} (l : Loop step rs₀ ws₀ text₀ rs ws text os₀ o₀ s₀ os o s p end i) (m : i < length rs / 4) (given : Table Span) (lent : Lent given rs₀ ws₀) where
+module _ {step : ℕ} {rs₀ ws₀ : List ℕ} {text₀ : Bytes} {rs ws : List ℕ} {text : Bytes} {os₀ o₀ s₀ os o s : List ℕ} {p : Place} {end i : ℕ} (l : Loop step rs₀ ws₀ text₀ rs ws text os₀ o₀ s₀ os o s p end i) (m : i < length rs / ruleWidth) (given : Table Span) (lent : Lent given rs₀ ws₀) where
   pub here : (ts : Table Span) → Holds ts rs ws text → Here ts rs ws text i end
   here ts h =
       let g = l .progress given ts lent h in
@@ -63,7 +64,7 @@ module _ {step : ℕ} {rs₀ ws₀ : List ℕ} {text₀ : Bytes} {rs ws : List �
   ready ts h k = record { there = m; name = h .names i m; room = omega (arith, m, l .heads-same, k) }
 
   -- what the step asks of the rule
-  pub rule-prepared : (marks : List ℕ) → Passing step rs₀ ws₀ text₀ marks rs ws text os₀ o₀ s₀ → (root : ℕ) → root + 1 ≡ end + getD rs (i * 4 + 3) 0 → RulePrepared step (getD rs (i * 4 + 2) 0) rs₀ ws₀ text₀ marks ws text root p (bytesAt text (getD rs (i * 4) 0, getD rs (i * 4 + 1) 0)) o s
+  pub rule-prepared : (marks : List ℕ) → Passing step rs₀ ws₀ text₀ marks rs ws text os₀ o₀ s₀ → (root : ℕ) → root + 1 ≡ end + getD rs (i * ruleWidth + rowsWord) 0 → RulePrepared step (getD rs (i * ruleWidth + typeWord) 0) rs₀ ws₀ text₀ marks ws text root p (bytesAt text (getD rs (i * ruleWidth) 0, getD rs (i * ruleWidth + lengthWord) 0)) o s
   rule-prepared marks q root e =
       let ts = q .table in
       let h = q .holds in
@@ -78,25 +79,25 @@ module _ {step : ℕ} {rs₀ ws₀ : List ℕ} {text₀ : Bytes} {rs ws : List �
             subst (λ (c : ℕ × ℕ). RuleFits p (bytesAt text c) (resolve text r) o s) (λ j. (sym (x .offset) j, sym (x .len) j))
             (subst (λ (b : Expr Span). RuleFits p (bytesAt text (n .0 .name)) (resolve text b) o s) (at-unique _ _ at a)
             (rule-fits-same {os′ = os₀} g (n .0) (n .1) (n .2) (λ y b. stepOf-less step k (resolveTable text₀ given) y b) (λ y b. stepOf-text step k (resolveTable text₀ given) y b) (record { rules = q .fits k .rules; rows = omega (arith, q .fits k .rows, l .out-same); text = omega (arith, q .fits k .text, l .lits-same) })));
-        asks = λ r a. subst (λ (b : Expr Span). Asks step (getD rs (i * 4 + 2) 0) rs₀ ws₀ text₀ marks ws text b) (at-unique _ _ at a) (subst (λ (y : ℕ). Asks step y rs₀ ws₀ text₀ marks ws text (n .0 .body)) (sym (x .type)) (asks-part (g .done) (n .0) (n .1) (subst (AsksAll step rs₀ ws₀ text₀ marks ws text) (g .whole ∙ ap (λ (y : Table Span). g .done ++ y) (n .2)) (q .asks))));
+        asks = λ r a. subst (λ (b : Expr Span). Asks step (getD rs (i * ruleWidth + typeWord) 0) rs₀ ws₀ text₀ marks ws text b) (at-unique _ _ at a) (subst (λ (y : ℕ). Asks step y rs₀ ws₀ text₀ marks ws text (n .0 .body)) (sym (x .type)) (asks-part (g .done) (n .0) (n .1) (subst (AsksAll step rs₀ ws₀ text₀ marks ws text) (g .whole ∙ ap (λ (y : Table Span). g .done ++ y) (n .2)) (q .asks))));
       }
 
   -- the answer for the rule, in the rule's own terms
-  rule-answer : (a : Wrote) (t : Table Bytes) (ts : Table Span) (os′ o′ s′ : List ℕ) (r : Rule Span) → Next ts rs ws text i end r → RuleAnswer a p i (getD rs (i * 4 + 2) 0) (bytesAt text (getD rs (i * 4) 0, getD rs (i * 4 + 1) 0)) (stepOf step t (getD rs (i * 4 + 2) 0) (resolve text (r .body))) os os′ o o′ s s′ → RuleAnswer a p i (r .type) (bytesAt text (r .name)) (stepOf step t (r .type) (resolve text (r .body))) os os′ o o′ s s′
+  rule-answer : (a : Wrote) (t : Table Bytes) (ts : Table Span) (os′ o′ s′ : List ℕ) (r : Rule Span) → Next ts rs ws text i end r → RuleAnswer a p i (getD rs (i * ruleWidth + typeWord) 0) (bytesAt text (getD rs (i * ruleWidth) 0, getD rs (i * ruleWidth + lengthWord) 0)) (stepOf step t (getD rs (i * ruleWidth + typeWord) 0) (resolve text (r .body))) os os′ o o′ s s′ → RuleAnswer a p i (r .type) (bytesAt text (r .name)) (stepOf step t (r .type) (resolve text (r .body))) os os′ o o′ s s′
   rule-answer a t ts os′ o′ s′ r n h =
       subst (λ (y : ℕ). RuleAnswer a p i y (bytesAt text (r .name)) (stepOf step t y (resolve text (r .body))) os os′ o o′ s s′) (n .type)
-      (subst (λ (x : ℕ). RuleAnswer a p i (getD rs (i * 4 + 2) 0) (bytesAt text (r .name .0, x)) (stepOf step t (getD rs (i * 4 + 2) 0) (resolve text (r .body))) os os′ o o′ s s′) (n .len)
-      (subst (λ (x : ℕ). RuleAnswer a p i (getD rs (i * 4 + 2) 0) (bytesAt text (x, getD rs (i * 4 + 1) 0)) (stepOf step t (getD rs (i * 4 + 2) 0) (resolve text (r .body))) os os′ o o′ s s′) (n .offset) h))
+      (subst (λ (x : ℕ). RuleAnswer a p i (getD rs (i * ruleWidth + typeWord) 0) (bytesAt text (r .name .0, x)) (stepOf step t (getD rs (i * ruleWidth + typeWord) 0) (resolve text (r .body))) os os′ o o′ s s′) (n .len)
+      (subst (λ (x : ℕ). RuleAnswer a p i (getD rs (i * ruleWidth + typeWord) 0) (bytesAt text (x, getD rs (i * ruleWidth + lengthWord) 0)) (stepOf step t (getD rs (i * ruleWidth + typeWord) 0) (resolve text (r .body))) os os′ o o′ s s′) (n .offset) h))
 
   -- what one_rule says of the tree at its root
   abbrev pub Said : Wrote → ℕ → (os′ o′ s′ : List ℕ) → Type 0
-  Said a root os′ o′ s′ = (gs : Table Span) (r : Expr Span) → Lent gs rs₀ ws₀ → At ws root r → RuleAnswer a p i (getD rs (i * 4 + 2) 0) (bytesAt text (getD rs (i * 4) 0, getD rs (i * 4 + 1) 0)) (stepOf step (resolveTable text₀ gs) (getD rs (i * 4 + 2) 0) (resolve text r)) os os′ o o′ s s′
+  Said a root os′ o′ s′ = (gs : Table Span) (r : Expr Span) → Lent gs rs₀ ws₀ → At ws root r → RuleAnswer a p i (getD rs (i * ruleWidth + typeWord) 0) (bytesAt text (getD rs (i * ruleWidth) 0, getD rs (i * ruleWidth + lengthWord) 0)) (stepOf step (resolveTable text₀ gs) (getD rs (i * ruleWidth + typeWord) 0) (resolve text r)) os os′ o o′ s s′
 
   said : (a : Wrote) (root : ℕ) (os′ o′ s′ : List ℕ) → Said a root os′ o′ s′ → (gs ts : Table Span) → Lent gs rs₀ ws₀ → (r : Rule Span) → Next ts rs ws text i end r → root + 1 ≡ end + size (r .body) → RuleAnswer a p i (r .type) (bytesAt text (r .name)) (stepOf step (resolveTable text₀ gs) (r .type) (resolve text (r .body))) os os′ o o′ s s′
   said a root os′ o′ s′ f gs ts g r n e = rule-answer a (resolveTable text₀ gs) ts os′ o′ s′ r n (f gs (r .body) g (n .at root e))
 
   -- one more rule is done
-  pub loop-next : {a : Wrote} {q : Place} {root end′ : ℕ} (os′ o′ s′ : List ℕ) → a ≡ Done q → (ts : Table Span) → Holds ts rs ws text → length rs ≤ length os₀ → length os′ ≡ length os → length o′ ≡ length o → length s′ ≡ length s → end′ ≡ end + getD rs (i * 4 + 3) 0 → root + 1 ≡ end′ → Said a root os′ o′ s′ → Loop step rs₀ ws₀ text₀ rs ws text os₀ o₀ s₀ os′ o′ s′ q end′ (i + 1)
+  pub loop-next : {a : Wrote} {q : Place} {root end′ : ℕ} (os′ o′ s′ : List ℕ) → a ≡ Done q → (ts : Table Span) → Holds ts rs ws text → length rs ≤ length os₀ → length os′ ≡ length os → length o′ ≡ length o → length s′ ≡ length s → end′ ≡ end + getD rs (i * ruleWidth + rowsWord) 0 → root + 1 ≡ end′ → Said a root os′ o′ s′ → Loop step rs₀ ws₀ text₀ rs ws text os₀ o₀ s₀ os′ o′ s′ q end′ (i + 1)
   loop-next {a} {q} {root} {end′} os′ o′ s′ d tab held k eos eo es e e₂ f =
       record {
         heads-same = eos ∙ l .heads-same;
@@ -119,16 +120,16 @@ module _ {step : ℕ} {rs₀ ws₀ : List ℕ} {text₀ : Bytes} {rs ws : List �
       rule-room : {y : ℕ} {n : Bytes} {x : E} → RuleKept q p i y n x os os′ o o′ s s′ → Room q o′ s′
       rule-room {y} {n} {x} w =
           let r = l .room in
-          let a₁ : length (take (q .rows * 4) o′) ≡ length (take (p .rows * 4) o) + size x * 4 = ap length (w .words) ∙ length-append (take (p .rows * 4) o) (flat (packed (p .text + length n) x)) ∙ ap (λ (z : ℕ). length (take (p .rows * 4) o) + z) (length-flat (packed (p .text + length n) x) ∙ ap (λ (z : ℕ). z * 4) (packed-size (p .text + length n) x)) in
+          let a₁ : length (take (q .rows * rowWidth) o′) ≡ length (take (p .rows * rowWidth) o) + size x * rowWidth = ap length (w .words) ∙ length-append (take (p .rows * rowWidth) o) (flat (packed (p .text + length n) x)) ∙ ap (λ (z : ℕ). length (take (p .rows * rowWidth) o) + z) (length-flat (packed (p .text + length n) x) ∙ ap (λ (z : ℕ). z * 4) (packed-size (p .text + length n) x)) in
           let a₂ : length (take (q .text) s′) ≡ length (take (p .text) s) + length (n ++ textOf x) = ap length (w .bytes) ∙ length-append (take (p .text) s) (n ++ textOf x) in
           record {
-            rows = omega (arith, a₁, w .rows, r .rows, length-take (q .rows * 4) o′, length-take (p .rows * 4) o);
+            rows = omega (arith, a₁, w .rows, r .rows, length-take (q .rows * rowWidth) o′, length-take (p .rows * rowWidth) o);
             text = omega (arith, a₂, w .text, r .text, length-take (q .text) s′, length-take (p .text) s);
             areas = record { words = omega (arith, eo, r .areas .words); bytes = omega (arith, es, r .areas .bytes) };
           }
 
   -- a rule that does not fit
-  pub loop-full : {a : Wrote} {root end′ : ℕ} (os′ o′ s′ : List ℕ) → a ≡ Full → end′ ≡ end + getD rs (i * 4 + 3) 0 → root + 1 ≡ end′ → Said a root os′ o′ s′ → (gs ts : Table Span) → Lent gs rs₀ ws₀ → Holds ts rs ws text → TableFits (each (stepOf step (resolveTable text₀ gs)) (resolveTable text ts)) os₀ o₀ s₀ → ⊥
+  pub loop-full : {a : Wrote} {root end′ : ℕ} (os′ o′ s′ : List ℕ) → a ≡ Full → end′ ≡ end + getD rs (i * ruleWidth + rowsWord) 0 → root + 1 ≡ end′ → Said a root os′ o′ s′ → (gs ts : Table Span) → Lent gs rs₀ ws₀ → Holds ts rs ws text → TableFits (each (stepOf step (resolveTable text₀ gs)) (resolveTable text ts)) os₀ o₀ s₀ → ⊥
   loop-full {a} {root} {end′} os′ o′ s′ d e e₂ f gs ts k₀ h t =
       let g = l .progress gs ts k₀ h in
       let n = next-rule _ ts text i end p os o s rs (h .rules) m g in
@@ -137,5 +138,5 @@ module _ {step : ℕ} {rs₀ ws₀ : List ℕ} {text₀ : Bytes} {rs ws : List �
       subst (λ (b : Wrote). RuleAnswer b p i (n .0 .type) (bytesAt text (n .0 .name)) (stepOf step (resolveTable text₀ gs) (n .0 .type) (resolve text (n .0 .body))) os os′ o o′ s s′) d (said a root os′ o′ s′ f gs ts k₀ (n .0) x (omega (arith, e, e₂, x .count))) y
 
 -- every rule is done
-pub loop-done : {step : ℕ} {rs₀ ws₀ : List ℕ} {text₀ : Bytes} {rs ws : List ℕ} {text : Bytes} {os₀ o₀ s₀ os o s : List ℕ} {p : Place} {end i : ℕ} → Loop step rs₀ ws₀ text₀ rs ws text os₀ o₀ s₀ os o s p end i → length rs / 4 ≤ i → (gs ts : Table Span) → Lent gs rs₀ ws₀ → Holds ts rs ws text → Front p (each (stepOf step (resolveTable text₀ gs)) (resolveTable text ts)) os o s
+pub loop-done : {step : ℕ} {rs₀ ws₀ : List ℕ} {text₀ : Bytes} {rs ws : List ℕ} {text : Bytes} {os₀ o₀ s₀ os o s : List ℕ} {p : Place} {end i : ℕ} → Loop step rs₀ ws₀ text₀ rs ws text os₀ o₀ s₀ os o s p end i → length rs / ruleWidth ≤ i → (gs ts : Table Span) → Lent gs rs₀ ws₀ → Holds ts rs ws text → Front p (each (stepOf step (resolveTable text₀ gs)) (resolveTable text ts)) os o s
 loop-done l m gs ts g h = finished (h .rules) m (l .progress gs ts g h)

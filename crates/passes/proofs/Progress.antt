@@ -6,11 +6,12 @@ use native.Mathlib.Nat.{zero-add, add-zero}
 use native.Mathlib.Omega.{arith}
 use lib.ListN.{length, take, getD, length-append}
 use lib.Seq.{getD-append-add}
+use Rattle.grammar.specs.Numbers.{ruleWidth, lengthWord, typeWord, rowsWord, rowWidth}
 use Rattle.grammar.specs.Basic.{Bytes}
 use Rattle.grammar.specs.Tree.{E, size}
 use Rattle.grammar.specs.Rows.{Span, flat, row}
 use Rattle.grammar.specs.Text.{bytesAt, resolve, textOf, packed}
-use Rattle.grammar.specs.Table.{Rule, Table, ruleWords, rowWords, rowCount, ruleText, tableText, packedRule, packedFrom, resolveRule, resolveTable, wordsOf}
+use Rattle.grammar.specs.Table.{Rule, Table, ruleWords, rowWords, rowCount, ruleText, tableText, packedRule, packedFrom, resolveRule, resolveTable, wordsOf, ruleHead}
 use Rattle.grammar.specs.Steps.{each, onRule}
 use Rattle.grammar.proofs.Packing.{packed-size}
 use Rattle.grammar.proofs.TopDown.{size-pos}
@@ -40,18 +41,18 @@ start F ts text p os o s a b =
       whole = refl;
       count = refl;
       ends = refl;
-      front = record { rows = a; text = b; rule-words = refl; row-words = ap (λ (n : ℕ). take (n * 4) o) a; bytes = ap (λ (n : ℕ). take n s) b };
+      front = record { rows = a; text = b; rule-words = refl; row-words = ap (λ (n : ℕ). take (n * rowWidth) o) a; bytes = ap (λ (n : ℕ). take n s) b };
     }
 
-pub rows-length : (t : Table Span) → length (rowWords t) ≡ rowCount t * 4
+pub rows-length : (t : Table Span) → length (rowWords t) ≡ rowCount t * rowWidth
 rows-length [] = refl
 rows-length (r ∷ t) = simp length-append (omega (arith, length-flat (r .body), rows-length t))
 
 -- the words of rule i
 module _ (done : Table Span) (r : Rule Span) (rest : Table Span) (rs : List ℕ) (h : ruleWords (done ++ (r ∷ rest)) ≡ rs) where
-  pub rule-word : (k : ℕ) → getD rs (length done * 4 + k) 0 ≡ getD (ruleWords (r ∷ rest)) k 0
+  pub rule-word : (k : ℕ) → getD rs (length done * ruleWidth + k) 0 ≡ getD (ruleWords (r ∷ rest)) k 0
   rule-word k =
-      ap (λ (l : List ℕ). getD l (length done * 4 + k) 0) (sym h ∙ rules-append done (r ∷ rest))
+      ap (λ (l : List ℕ). getD l (length done * rowWidth + k) 0) (sym h ∙ rules-append done (r ∷ rest))
       ∙ ap (λ (n : ℕ). getD (ruleWords done ++ ruleWords (r ∷ rest)) (n + k) 0) (sym (rules-length done))
       ∙ getD-append-add (ruleWords done) (ruleWords (r ∷ rest)) k 0
 
@@ -66,7 +67,7 @@ at-rule done r rest ws h i k =
     }
 
 -- a table with one more rule stands in front
-pub front-next : {q p : Place} {i y : ℕ} {n : Bytes} {e : E} {os os′ o o′ s s′ : List ℕ} (D : Table Bytes) → Front p D os o s → RuleKept q p i y n e os os′ o o′ s s′ → length D ≡ i → i < length os / 4 → Front q (D ++ (record { name = n; type = y; body = e } ∷ [])) os′ o′ s′
+pub front-next : {q p : Place} {i y : ℕ} {n : Bytes} {e : E} {os os′ o o′ s s′ : List ℕ} (D : Table Bytes) → Front p D os o s → RuleKept q p i y n e os os′ o o′ s s′ → length D ≡ i → i < length os / ruleWidth → Front q (D ++ (record { name = n; type = y; body = e } ∷ [])) os′ o′ s′
 front-next {q} {p} {i} {y} {n} {e} {os} {os′} {o} {o′} {s} {s′} D f k l m =
     record {
       rows = omega (arith, f .rows, k .rows, count-append D (r ∷ []));
@@ -85,14 +86,14 @@ front-next {q} {p} {i} {y} {n} {e} {os} {os′} {o} {o′} {s} {s′} D f k l m 
     packs : packedFrom 0 (D ++ (r ∷ [])) ≡ packedFrom 0 D ++ (r₁ ∷ [])
     packs = packed-append 0 D (r ∷ []) ∙ ap (λ (x : ℕ). packedFrom 0 D ++ (packedRule x r ∷ [])) (zero-add (length (tableText D)))
 
-    four : length (D ++ (r ∷ [])) * 4 ≡ i * 4 + 4
+    four : length (D ++ (r ∷ [])) * ruleWidth ≡ i * ruleWidth + ruleWidth
     four = omega (arith, length-append D (r ∷ []), l)
 
-    heads : take (length (D ++ (r ∷ [])) * 4) os′ ≡ ruleWords (packedFrom 0 (D ++ (r ∷ [])))
+    heads : take (length (D ++ (r ∷ [])) * ruleWidth) os′ ≡ ruleWords (packedFrom 0 (D ++ (r ∷ [])))
     heads =
         ap₂ take four (k .heads)
-        ∙ take-stored os (row (p .text, length n, y) (size e)) (i * 4) (i * 4 + 4) refl (omega (arith, m))
-        ∙ ap₂ _++_ (ap (λ (x : ℕ). take (x * 4) os) (sym l) ∙ f .rule-words) (ap₂ (λ (x z : ℕ). row (x, length n, y) z) (f .text) (sym (packed-size (length (tableText D) + length n) e)))
+        ∙ take-stored os (ruleHead (p .text, length n) y (size e)) (i * ruleWidth) (i * ruleWidth + ruleWidth) refl (omega (arith, m))
+        ∙ ap₂ _++_ (ap (λ (x : ℕ). take (x * ruleWidth) os) (sym l) ∙ f .rule-words) (ap₂ (λ (x z : ℕ). row (x, length n, y) z) (f .text) (sym (packed-size (length (tableText D) + length n) e)))
         ∙ sym (rules-append (packedFrom 0 D) (r₁ ∷ []))
         ∙ ap ruleWords (sym packs)
 
@@ -100,7 +101,7 @@ front-next {q} {p} {i} {y} {n} {e} {os} {os′} {o} {o′} {s} {s′} D f k l m 
 abbrev pub Left : Table Span → (i n : ℕ) → Type 0
 Left rest i n = (r : Rule Span) × (rest′ : Table Span) × (rest ≡ r ∷ rest′)
 
-pub next-rule : (F : ℕ → E → E) (ts : Table Span) (text : Bytes) (i end : ℕ) (p : Place) (os o s rs : List ℕ) → ruleWords ts ≡ rs → i < length rs / 4 → (g : Progress F ts text i end p os o s) → Left (g .rest) i end
+pub next-rule : (F : ℕ → E → E) (ts : Table Span) (text : Bytes) (i end : ℕ) (p : Place) (os o s rs : List ℕ) → ruleWords ts ≡ rs → i < length rs / ruleWidth → (g : Progress F ts text i end p os o s) → Left (g .rest) i end
 next-rule F ts text i end p os o s rs h l g = go (g .rest) (g .whole)
   where
     go : (rest : Table Span) → ts ≡ g .done ++ rest → Left rest i end
@@ -109,23 +110,23 @@ next-rule F ts text i end p os o s rs h l g = go (g .rest) (g .whole)
 
 -- of the next rule: its words in the lent rules, and its tree in the lent rows
 pub record Next (ts : Table Span) (rs ws : List ℕ) (text : Bytes) (i end : ℕ) (r : Rule Span) : Type 0 where
-  pub offset : getD rs (i * 4) 0 ≡ r .name .0
-  pub len : getD rs (i * 4 + 1) 0 ≡ r .name .1
-  pub type : getD rs (i * 4 + 2) 0 ≡ r .type
-  pub count : getD rs (i * 4 + 3) 0 ≡ size (r .body)
+  pub offset : getD rs (i * ruleWidth) 0 ≡ r .name .0
+  pub len : getD rs (i * ruleWidth + lengthWord) 0 ≡ r .name .1
+  pub type : getD rs (i * ruleWidth + typeWord) 0 ≡ r .type
+  pub count : getD rs (i * ruleWidth + rowsWord) 0 ≡ size (r .body)
   pub at : (k : ℕ) → k + 1 ≡ end + size (r .body) → At ws k (r .body)
 
 module _ {F : ℕ → E → E} {ts : Table Span} {text : Bytes} {i end : ℕ} {p : Place} {os o s rs ws : List ℕ} (h : Holds ts rs ws text) (g : Progress F ts text i end p os o s) (r : Rule Span) (rest : Table Span) (w : g .rest ≡ r ∷ rest) where
   split : ts ≡ g .done ++ (r ∷ rest)
   split = g .whole ∙ ap (λ (x : Table Span). g .done ++ x) w
 
-  word : (k : ℕ) → getD rs (i * 4 + k) 0 ≡ getD (ruleWords (r ∷ rest)) k 0
-  word k = ap (λ (x : ℕ). getD rs (x * 4 + k) 0) (sym (g .count)) ∙ rule-word (g .done) r rest rs (ap ruleWords (sym split) ∙ h .rules) k
+  word : (k : ℕ) → getD rs (i * ruleWidth + k) 0 ≡ getD (ruleWords (r ∷ rest)) k 0
+  word k = ap (λ (x : ℕ). getD rs (x * ruleWidth + k) 0) (sym (g .count)) ∙ rule-word (g .done) r rest rs (ap ruleWords (sym split) ∙ h .rules) k
 
   pub the-next : Next ts rs ws text i end r
   the-next =
       record {
-        offset = ap (λ (x : ℕ). getD rs x 0) (sym (add-zero (i * 4))) ∙ word 0;
+        offset = ap (λ (x : ℕ). getD rs x 0) (sym (add-zero (i * ruleWidth))) ∙ word 0;
         len = word 1;
         type = word 2;
         count = word 3;
@@ -136,7 +137,7 @@ module _ {F : ℕ → E → E} {ts : Table Span} {text : Bytes} {i end : ℕ} {p
   whole-done = ap (λ (x : Table Span). each F (resolveTable text x)) split ∙ ap (each F) (resolve-append text (g .done) (r ∷ rest)) ∙ each-append F (resolveTable text (g .done)) (resolveTable text (r ∷ rest))
 
   -- one rule further
-  pub progress-next : {q : Place} {os′ o′ s′ : List ℕ} (end′ : ℕ) → end′ ≡ end + size (r .body) → i < length os / 4 → RuleKept q p i (r .type) (bytesAt text (r .name)) (F (r .type) (resolve text (r .body))) os os′ o o′ s s′ → Progress F ts text (i + 1) end′ q os′ o′ s′
+  pub progress-next : {q : Place} {os′ o′ s′ : List ℕ} (end′ : ℕ) → end′ ≡ end + size (r .body) → i < length os / ruleWidth → RuleKept q p i (r .type) (bytesAt text (r .name)) (F (r .type) (resolve text (r .body))) os os′ o o′ s s′ → Progress F ts text (i + 1) end′ q os′ o′ s′
   progress-next {q} {os′} {o′} {s′} end′ e m k =
       let D : Table Bytes = each F (resolveTable text (g .done)) in
       let l : length D ≡ i = each-length F (resolveTable text (g .done)) ∙ resolve-length text (g .done) ∙ g .count in
@@ -160,7 +161,7 @@ module _ {F : ℕ → E → E} {ts : Table Span} {text : Bytes} {i end : ℕ} {p
       record { rows = omega (arith, f .rows, a, g .front .rows); text = omega (arith, f .text, b, g .front .text) }
 
 -- all rules are done
-pub finished : {F : ℕ → E → E} {ts : Table Span} {text : Bytes} {i end : ℕ} {p : Place} {os o s rs : List ℕ} → ruleWords ts ≡ rs → length rs / 4 ≤ i → Progress F ts text i end p os o s → Front p (each F (resolveTable text ts)) os o s
+pub finished : {F : ℕ → E → E} {ts : Table Span} {text : Bytes} {i end : ℕ} {p : Place} {os o s rs : List ℕ} → ruleWords ts ≡ rs → length rs / ruleWidth ≤ i → Progress F ts text i end p os o s → Front p (each F (resolveTable text ts)) os o s
 finished {F} {ts} {text} {i} {end} {p} {os} {o} {s} {rs} h l g = go (g .rest) (g .whole)
   where
     go : (rest : Table Span) → ts ≡ g .done ++ rest → Front p (each F (resolveTable text ts)) os o s

@@ -5,6 +5,7 @@ use Prim.Native.Nat.{ℕ, zero, suc, _+_, _*_}
 use native.Mathlib.Nat.{add-zero, add-assoc}
 use native.Mathlib.Omega.{arith}
 use lib.ListN.{length, length-append}
+use Rattle.grammar.specs.Numbers.{ruleWidth}
 use Rattle.grammar.specs.Basic.{Bytes}
 use Rattle.grammar.specs.Tree.{E, size}
 use Rattle.grammar.specs.Rows.{Span, flat}
@@ -42,7 +43,7 @@ pub each-append : (f : ℕ → E → E) (s t : Table Bytes) → each f (s ++ t) 
 each-append f [] t = refl
 each-append f (r ∷ s) t = ap (λ (l : Table Bytes). onRule f r ∷ l) (each-append f s t)
 
-pub rules-length : (t : Table Span) → length (ruleWords t) ≡ length t * 4
+pub rules-length : (t : Table Span) → length (ruleWords t) ≡ length t * ruleWidth
 rules-length [] = refl
 rules-length (r ∷ t) = omega (arith, rules-length t)
 

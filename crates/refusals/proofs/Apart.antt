@@ -6,13 +6,14 @@ use mathlib.Core.Option.{some}
 use Prim.Native.Nat.{ℕ, zero, suc, _/_, _<_}
 use native.Mathlib.Omega.{arith}
 use lib.ListN.{length, getElem?}
+use Rattle.grammar.specs.Numbers.{ruleWidth}
 use Rattle.grammar.specs.Basic.{Bytes, any, sameBytes, member}
 use Rattle.grammar.specs.Rows.{Span}
 use Rattle.grammar.specs.Text.{bytesAt}
 use Rattle.grammar.specs.Table.{Rule, Table, ruleWords, resolveTable}
 use Rattle.grammar.specs.Refusals.{reserved, repeated, names, badNames}
 use Rattle.grammar.proofs.Logic.{eq-sameBytes, none-some, some-eq}
-use Rattle.names.specs.Names.{nameOf, Hashed, Twice}
+use Rattle.names.specs.Names.{nameOf, AllIndexed, Twice}
 use Rattle.names.proofs.Index.{names-apart}
 use Rattle.names.proofs.Finding.{differ, There, there, inside-table, name-is, rule-count}
 use Rattle.refusals.specs.Bytes.{NameFree, NamesFine}
@@ -87,7 +88,7 @@ module _ (text : Bytes) where
 
 -- what a search among the earlier rules tells of a rule's name
 -- the names of an index are apart, so that it is enough that none is reserved
-pub indexed-fine : {rules : List ℕ} {text : Bytes} {m : List ℕ} → Hashed rules text m → ((i : ℕ) → i < length rules / 4 → member (nameOf rules text i) reserved ≡ false) → NamesFine rules text
+pub indexed-fine : {rules : List ℕ} {text : Bytes} {m : List ℕ} → AllIndexed rules text m → ((i : ℕ) → i < length rules / ruleWidth → member (nameOf rules text i) reserved ≡ false) → NamesFine rules text
 indexed-fine h f = λ i l. record { free = f i l; apart = λ j b e. names-apart h j i b l e }
 
 pub twice-not : {rules : List ℕ} {text : Bytes} → Twice rules text → NamesFine rules text → ⊥

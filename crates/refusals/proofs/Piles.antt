@@ -10,6 +10,7 @@ use borrow.Author.Tests.{le-leb, leb-true, eqb-true}
 use lib.Dec.{eqb, leb}
 use lib.ListN.{length, getD, take, drop, length-append, take-append-drop}
 use lib.Seq.{take-add, take-at, take-take, take-all, length-take-le}
+use Rattle.grammar.specs.Numbers.{rowWidth}
 use Rattle.grammar.specs.Tree as tree
 use Rattle.grammar.specs.Tree.{Head, Str, Fixed, Un, Bin, Expr, lit, fixed, skip, un, bin, litKind, fixedHead, unHead, binKind, size}
 use Rattle.grammar.specs.Rows.{Span, row, strRows, flat}
@@ -247,25 +248,25 @@ AllAllowed ok (e ∷ st) = Allowed ok e × AllAllowed ok st
 
 -- the first i rows are those of the pile
 record Piled (w : List ℕ) (i : ℕ) (st : List (Expr Span)) : Type 0 where
-  words : flats st ≡ take (i * 4) w
-  within : i * 4 ≤ length w
+  words : flats st ≡ take (i * rowWidth) w
+  within : i * rowWidth ≤ length w
 
 module _ {w : List ℕ} {i : ℕ} where
-  pile-length : {st : List (Expr Span)} → Piled w i st → length (flats st) ≡ i * 4
-  pile-length p = ap length (p .words) ∙ length-take-le (i * 4) w (p .within)
+  pile-length : {st : List (Expr Span)} → Piled w i st → length (flats st) ≡ i * rowWidth
+  pile-length p = ap length (p .words) ∙ length-take-le (i * rowWidth) w (p .within)
 
   nothing-piled : Piled w i [] → i ≡ 0
-  nothing-piled p = let e : 0 ≡ i * 4 = pile-length p in omega arith
+  nothing-piled p = let e : 0 ≡ i * rowWidth = pile-length p in omega arith
 
   module _ {e : Expr Span} {st : List (Expr Span)} (p : Piled w i (e ∷ st)) where
-    rest-length : length (flats st) + size e * 4 ≡ i * 4
+    rest-length : length (flats st) + size e * rowWidth ≡ i * rowWidth
     rest-length = omega (arith, pile-length p, length-append (flats st) (flat e), length-flat e)
 
     top-at : At w (i - 1) e
     top-at = record {
       before = flats st;
-      after = drop (i * 4) w;
-      whole = sym (take-append-drop (i * 4) w) ∙ ap (λ (l : List ℕ). l ++ drop (i * 4) w) (sym (p .words)) ∙ append-assoc (flats st) (flat e) _;
+      after = drop (i * rowWidth) w;
+      whole = sym (take-append-drop (i * rowWidth) w) ∙ ap (λ (l : List ℕ). l ++ drop (i * rowWidth) w) (sym (p .words)) ∙ append-assoc (flats st) (flat e) _;
       place = omega (arith, rest-length, size-pos e);
     }
 
@@ -274,15 +275,15 @@ module _ {w : List ℕ} {i : ℕ} where
 
     rest-piled : Piled w (i - size e) st
     rest-piled =
-        let n : length (flats st) ≡ (i - size e) * 4 = omega (arith, rest-length) in
+        let n : length (flats st) ≡ (i - size e) * rowWidth = omega (arith, rest-length) in
         record {
-          words = sym (take-at (flats st) (flat e) ((i - size e) * 4) n) ∙ ap (take ((i - size e) * 4)) (p .words) ∙ take-take ((i - size e) * 4) (i * 4) w (omega arith);
+          words = sym (take-at (flats st) (flat e) ((i - size e) * rowWidth) n) ∙ ap (take ((i - size e) * rowWidth)) (p .words) ∙ take-take ((i - size e) * rowWidth) (i * rowWidth) w (omega arith);
           within = omega (arith, p .within);
         }
 
-next-row : (w : List ℕ) (i : ℕ) → i * 4 + 4 ≤ length w → take (i * 4 + 4) w ≡ take (i * 4) w ++ row (kindAt w i, xAt w i, yAt w i) (sizeAt w i)
+next-row : (w : List ℕ) (i : ℕ) → i * rowWidth + rowWidth ≤ length w → take (i * rowWidth + rowWidth) w ≡ take (i * rowWidth) w ++ row (kindAt w i, xAt w i, yAt w i) (sizeAt w i)
 unfolding kindAt xAt yAt sizeAt
-next-row w i h = take-add (i * 4) 4 w ∙ ap (λ (l : List ℕ). take (i * 4) w ++ take 4 l) (four w i h)
+next-row w i h = take-add (i * rowWidth) 4 w ∙ ap (λ (l : List ℕ). take (i * rowWidth) w ++ take 4 l) (four w i h)
 
 -- a node over the top of the pile, whose row comes next
 record Pile (ok : Kinds) (w : List ℕ) (i : ℕ) : Type 0 where
@@ -291,10 +292,10 @@ record Pile (ok : Kinds) (w : List ℕ) (i : ℕ) : Type 0 where
   allowed : AllAllowed ok stack
 
 module _ (ok : Kinds) (w : List ℕ) (i : ℕ) where
-  grow : (e : Expr Span) (st : List (Expr Span)) → flats st ++ below e ≡ take (i * 4) w → _≡_ {A = Head} (headOf e) (kindAt w i, xAt w i, yAt w i)
-      → size e ≡ sizeAt w i → Allowed ok e → AllAllowed ok st → i * 4 + 4 ≤ length w → Pile ok w (i + 1)
+  grow : (e : Expr Span) (st : List (Expr Span)) → flats st ++ below e ≡ take (i * rowWidth) w → _≡_ {A = Head} (headOf e) (kindAt w i, xAt w i, yAt w i)
+      → size e ≡ sizeAt w i → Allowed ok e → AllAllowed ok st → i * rowWidth + rowWidth ≤ length w → Pile ok w (i + 1)
   grow e st b h n p q l =
-      let m : (i + 1) * 4 ≡ i * 4 + 4 = omega arith in
+      let m : (i + 1) * rowWidth ≡ i * rowWidth + rowWidth = omega arith in
       record {
         stack = e ∷ st;
         piled = record {
@@ -302,7 +303,7 @@ module _ (ok : Kinds) (w : List ℕ) (i : ℕ) where
               ap (λ (v : List ℕ). flats st ++ v) (flat-root e)
               ∙ sym (append-assoc (flats st) (below e) (row (headOf e) (size e)))
               ∙ ap (λ (v : List ℕ). v ++ row (headOf e) (size e)) b
-              ∙ ap₂ (λ (g : Head) (k : ℕ). take (i * 4) w ++ row g k) h n
+              ∙ ap₂ (λ (g : Head) (k : ℕ). take (i * rowWidth) w ++ row g k) h n
               ∙ sym (next-row w i l)
               ∙ ap (λ (k : ℕ). take k w) (sym m);
           within = omega arith;
@@ -346,7 +347,7 @@ take-strs ok w (suc k) i (e ∷ st) acc p q s h f =
       under-ok = ih .under-ok;
     }
 
-module _ (most : ℕ) (w : List ℕ) (i : ℕ) (small : most ≤ 19) (long : i * 4 + 4 ≤ length w) (f : RowFits most w i) where
+module _ (most : ℕ) (w : List ℕ) (i : ℕ) (small : most ≤ 19) (long : i * rowWidth + rowWidth ≤ length w) (f : RowFits most w i) where
   abbrev k : ℕ
   k = kindAt w i
 
@@ -406,11 +407,11 @@ module _ (most : ℕ) (w : List ℕ) (i : ℕ) (small : most ≤ 19) (long : i *
 -- ---- THE LOCAL TEST IS EXACT: the words of n rows are one tree's exactly when every row is right and the last one's size is n
 
 module _ (most : ℕ) (w : List ℕ) (small : most ≤ 19) where
-  pile-all : (n : ℕ) → n * 4 ≤ length w → ((j : ℕ) → j < n → RowFits most w j) → Pile (upTo most) w n
+  pile-all : (n : ℕ) → n * rowWidth ≤ length w → ((j : ℕ) → j < n → RowFits most w j) → Pile (upTo most) w n
   pile-all zero l f = record { stack = []; piled = record { words = refl; within = omega arith }; allowed = tt }
   pile-all (suc n) l f = rw add-one at (pile-step most w n small (omega arith) (f n (omega arith)) (pile-all n (omega arith) (λ j h. f j (omega arith))))
 
-  pub tree-of : (n : ℕ) → length w ≡ n * 4 → ((j : ℕ) → j < n → RowFits most w j) → 0 < n → sizeAt w (n - 1) ≡ n → IsTree (upTo most) w
+  pub tree-of : (n : ℕ) → length w ≡ n * rowWidth → ((j : ℕ) → j < n → RowFits most w j) → 0 < n → sizeAt w (n - 1) ≡ n → IsTree (upTo most) w
   tree-of n l f h s = go (p .stack) (p .piled) (p .allowed)
     where
       p : Pile (upTo most) w n
@@ -418,7 +419,7 @@ module _ (most : ℕ) (w : List ℕ) (small : most ≤ 19) where
 
       go : (st : List (Expr Span)) → Piled w n st → AllAllowed (upTo most) st → IsTree (upTo most) w
       go [] q a = let z : n ≡ 0 = nothing-piled q in absurd (omega arith)
-      go (e ∷ []) q a = record { tree = e; read = ap (readTree (upTo most)) (sym (q .words ∙ take-all (n * 4) w (omega arith))) ∙ tree-back (upTo most) e (a .0) }
+      go (e ∷ []) q a = record { tree = e; read = ap (readTree (upTo most)) (sym (q .words ∙ take-all (n * rowWidth) w (omega arith))) ∙ tree-back (upTo most) e (a .0) }
       go (e ∷ g ∷ st) q a =
           let m : sizeAt w (n - 1) ≡ size e = root (top-at q) .rows in
           absurd (omega (arith, top-size (rest-piled q), size-pos g))
@@ -428,7 +429,7 @@ module _ (most : ℕ) (w : List ℕ) (small : most ≤ 19) where
     pub some-row : 0 < n
     pub last : sizeAt w (n - 1) ≡ n
 
-  pub of-tree : (n : ℕ) → length w ≡ n * 4 → IsTree (upTo most) w → TreeFits n
+  pub of-tree : (n : ℕ) → length w ≡ n * rowWidth → IsTree (upTo most) w → TreeFits n
   of-tree n l t =
       let e : Expr Span = t .tree in
       let q : flat e ≡ w = tree-is (upTo most) w e (t .read) in
@@ -441,6 +442,6 @@ module _ (most : ℕ) (w : List ℕ) (small : most ≤ 19) where
         last = root a .rows ∙ m;
       }
 
-  pub tree-tells : (n s : ℕ) → length w ≡ n * 4 → ((j : ℕ) → j < n → RowFits most w j) → 0 < n → s ≡ getD w ((n - 1) * 4 + 3) 0 → Tells (eqb s n) (IsTree (upTo most) w)
+  pub tree-tells : (n s : ℕ) → length w ≡ n * rowWidth → ((j : ℕ) → j < n → RowFits most w j) → 0 < n → s ≡ getD w ((n - 1) * rowWidth + 3) 0 → Tells (eqb s n) (IsTree (upTo most) w)
   unfolding sizeAt
   tree-tells n s l f h e = tells-iff (eqb s n) (λ q. tree-of n l f h (sym e ∙ q)) (λ t. e ∙ of-tree n l t .last) (tells-eqb s n)

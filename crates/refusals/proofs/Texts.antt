@@ -7,6 +7,7 @@ use native.Mathlib.Omega.{arith}
 use borrow.Author.Tests.{ltb-true, ltb-false, eqb-true, le-ltb, ne-eqb}
 use lib.Dec.{eqb, ltb}
 use lib.ListN.{length, getD}
+use Rattle.grammar.specs.Numbers.{ruleWidth, lengthWord, rowWidth}
 use Rattle.grammar.specs.Basic.{Bytes, any}
 use Rattle.grammar.specs.Tree as tree
 use Rattle.grammar.specs.Tree.{Un, Bin, Expr, lit, fixed, skip, un, bin, litKind, fixedHead, unHead, binKind, lits, anyNode}
@@ -189,8 +190,8 @@ module _ (text : Bytes) where
   span-inside : (s : Span) → badSpan text s ≡ false → s .0 + s .1 ≤ length text
   span-inside s h = ltb-false (length text) (s .0 + s .1) (neither-left _ _ h)
 
-  pub names-inside : (rules : List ℕ) → length rules % 4 ≡ 0 → anyFour (badName text) rules ≡ false → NamesInside rules (length text)
-  names-inside rules l h i k = span-inside (getD rules (i * 4) 0, getD rules (i * 4 + 1) 0) (none-pass (badName text) (length rules / 4) rules (omega arith) h i k)
+  pub names-inside : (rules : List ℕ) → length rules % ruleWidth ≡ 0 → anyFour (badName text) rules ≡ false → NamesInside rules (length text)
+  names-inside rules l h i k = span-inside (getD rules (i * ruleWidth) 0, getD rules (i * ruleWidth + lengthWord) 0) (none-pass (badName text) (length rules / ruleWidth) rules (omega arith) h i k)
 
   lit-bad : (k x y : ℕ) → shapeOf k ≡ Lit → badRow text k x y ≡ badSpan text (x, y)
   unfolding badRow
@@ -199,8 +200,8 @@ module _ (text : Bytes) where
       go : (k ≤ 3) × (k ≡ 2 → ⊥) → cond (ltb 3 k) false (cond (eqb k 2) (ltb 127 x || ltb 127 y) (badSpan text (x, y))) ≡ badSpan text (x, y)
       go q = rw (le-ltb 3 k (q .0), ne-eqb k 2 (q .1))
 
-  pub rows-inside : (rows : List ℕ) → length rows % 4 ≡ 0 → anyFour (badRow text) rows ≡ false → Inside rows (length text)
+  pub rows-inside : (rows : List ℕ) → length rows % rowWidth ≡ 0 → anyFour (badRow text) rows ≡ false → Inside rows (length text)
   unfolding kindAt xAt yAt
   rows-inside rows l h i k s =
-      let p : badRow text (getD rows (i * 4) 0) (getD rows (i * 4 + 1) 0) (getD rows (i * 4 + 2) 0) ≡ false = none-pass (badRow text) (length rows / 4) rows (omega arith) h i k in
-      span-inside (getD rows (i * 4 + 1) 0, getD rows (i * 4 + 2) 0) (sym (lit-bad (getD rows (i * 4) 0) (getD rows (i * 4 + 1) 0) (getD rows (i * 4 + 2) 0) s) ∙ p)
+      let p : badRow text (getD rows (i * rowWidth) 0) (getD rows (i * rowWidth + 1) 0) (getD rows (i * rowWidth + 2) 0) ≡ false = none-pass (badRow text) (length rows / rowWidth) rows (omega arith) h i k in
+      span-inside (getD rows (i * rowWidth + 1) 0, getD rows (i * rowWidth + 2) 0) (sym (lit-bad (getD rows (i * rowWidth) 0) (getD rows (i * rowWidth + 1) 0) (getD rows (i * rowWidth + 2) 0) s) ∙ p)

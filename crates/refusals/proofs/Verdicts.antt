@@ -9,6 +9,7 @@ use native.Mathlib.Omega.{arith}
 use borrow.Author.Tests.{not-false, eqb-true, ltb-false}
 use lib.Dec.{eqb, ltb}
 use lib.ListN.{length}
+use Rattle.grammar.specs.Numbers.{ruleWidth, rowWidth}
 use Rattle.grammar.specs.Basic.{Bytes}
 use Rattle.grammar.specs.Table.{Table, Words, rowCount, resolveTable}
 use Rattle.grammar.specs.Reading.{readTable, inputKinds}
@@ -50,16 +51,16 @@ module _ (rules rows : List ℕ) (text : Bytes) where
 
   -- what counts that are not refused say
   pub record Counts : Type 0 where
-    pub rules-4 : length rules % 4 ≡ 0
-    pub rows-4 : length rows % 4 ≡ 0
+    pub rules-4 : length rules % ruleWidth ≡ 0
+    pub rows-4 : length rows % rowWidth ≡ 0
     pub rules-most : length rules ≤ 1024
     pub rows-most : length rows ≤ 16384
     pub text-most : length text ≤ 65536
 
   pub counts : badCounts w ≡ false → Counts
   counts h =
-      let a : Bool = not (eqb (length rules % 4) 0) in
-      let b : Bool = not (eqb (length rows % 4) 0) in
+      let a : Bool = not (eqb (length rules % ruleWidth) 0) in
+      let b : Bool = not (eqb (length rows % rowWidth) 0) in
       let c : Bool = ltb 1024 (length rules) in
       let d : Bool = ltb 16384 (length rows) in
       let e : Bool = ltb 65536 (length text) in
@@ -67,8 +68,8 @@ module _ (rules rows : List ℕ) (text : Bytes) where
       let h₂ : (c || (d || e)) ≡ false = neither-right b (c || (d || e)) h₁ in
       let h₃ : (d || e) ≡ false = neither-right c (d || e) h₂ in
       record {
-        rules-4 = eqb-true (length rules % 4) 0 (not-false (eqb (length rules % 4) 0) (neither-left a (b || (c || (d || e))) h));
-        rows-4 = eqb-true (length rows % 4) 0 (not-false (eqb (length rows % 4) 0) (neither-left b (c || (d || e)) h₁));
+        rules-4 = eqb-true (length rules % ruleWidth) 0 (not-false (eqb (length rules % ruleWidth) 0) (neither-left a (b || (c || (d || e))) h));
+        rows-4 = eqb-true (length rows % rowWidth) 0 (not-false (eqb (length rows % rowWidth) 0) (neither-left b (c || (d || e)) h₁));
         rules-most = ltb-false 1024 (length rules) (neither-left c (d || e) h₂);
         rows-most = ltb-false 16384 (length rows) (neither-left d e h₃);
         text-most = ltb-false 65536 (length text) (neither-right d e h₃);
@@ -94,11 +95,11 @@ module _ (rules rows : List ℕ) (text : Bytes) where
       zero-is : zeroCounts resolved ≡ anyFour zeroRow rows
       zero-is = zeros-are text (t .table) ∙ ap (anyFour zeroRow) (of .rows)
 
-      pub few-rows : rowsBefore rules (length rules / 4) < 2 ^ 32
+      pub few-rows : rowsBefore rules (length rules / ruleWidth) < 2 ^ 32
       few-rows =
-          let n : length rules / 4 ≡ length (t .table) = ap (λ (r : List ℕ). length r / 4) (sym (of .rules)) ∙ rule-count (t .table) in
+          let n : length rules / ruleWidth ≡ length (t .table) = ap (λ (r : List ℕ). length r / ruleWidth) (sym (of .rules)) ∙ rule-count (t .table) in
           let m : rowsBefore rules (length (t .table)) ≡ rowCount (t .table) = ap (λ (r : List ℕ). rowsBefore r (length (t .table))) (sym (of .rules)) ∙ rows-before-all (t .table) in
-          let k : length rows ≡ rowCount (t .table) * 4 = ap length (sym (of .rows)) ∙ length-rows (t .table) in
+          let k : length rows ≡ rowCount (t .table) * rowWidth = ap length (sym (of .rows)) ∙ length-rows (t .table) in
           rw n (omega (arith, counts c .rows-most))
 
       pub refused-4 : (marks : List ℕ) (b : Bool) → b ≡ (anyFour (badName text) rules || anyFour (badRow text) rows) → b ≡ true → Checked (Refused 4) w marks
@@ -152,7 +153,7 @@ module _ (rules rows : List ℕ) (text : Bytes) where
                 names = fine-is (k .0);
                 zeros = zero-is ∙ k .1;
                 inside = inside-rows;
-                hashed = k .2;
+                index = k .2;
                 ended = k .3;
               };
             }

@@ -5,6 +5,7 @@ use mathlib.Core.List.{List, [], _∷_}
 use Prim.Native.Nat.{ℕ, _*_, _/_, _≤_, _<_}
 use lib.Dec.{eqb, ltb}
 use lib.ListN.{length, getD}
+use Rattle.grammar.specs.Numbers.{ruleWidth, lastAscii, kRange, kIdent, kRepExact, kRepMax, kRepMinMax}
 use Rattle.grammar.specs.Basic.{Bytes, member}
 use Rattle.grammar.specs.Refusals.{badSpan, reserved}
 use Rattle.names.specs.Names.{nameOf}
@@ -22,11 +23,11 @@ abbrev pub badName : Bytes → ℕ → ℕ → ℕ → Bool
 badName text o l y = badSpan text (o, l)
 
 unfoldable pub badRow : Bytes → ℕ → ℕ → ℕ → Bool
-badRow text k x y = cond (ltb 3 k) false (cond (eqb k 2) (ltb 127 x || ltb 127 y) (badSpan text (x, y)))
+badRow text k x y = cond (ltb kIdent k) false (cond (eqb k kRange) (ltb lastAscii x || ltb lastAscii y) (badSpan text (x, y)))
 
 -- refusal 6 of a row: kinds 13 and 15 count by x, 16 by y
 unfoldable pub zeroRow : ℕ → ℕ → ℕ → Bool
-zeroRow k x y = cond (eqb k 13) (eqb x 0) (cond (eqb k 15) (eqb x 0) (cond (eqb k 16) (eqb y 0) false))
+zeroRow k x y = cond (eqb k kRepExact) (eqb x 0) (cond (eqb k kRepMax) (eqb x 0) (cond (eqb k kRepMinMax) (eqb y 0) false))
 
 -- the first byte above 127 from p on is at r, or there is none and r is the end
 pub record High (text : Bytes) (p r : ℕ) : Type 0 where
@@ -35,10 +36,14 @@ pub record High (text : Bytes) (p r : ℕ) : Type 0 where
   pub low : (j : ℕ) → p ≤ j → j < r → getD text j 0 ≤ 127
   pub high : r < length text → 127 < getD text r 0
 
+-- so many bytes a word of the marks stands for
+abbrev pub stretch : ℕ
+stretch = 64
+
 -- word b of the marks is where the first byte above 127 from 64 b on is
 pub record Indexed (text : Bytes) (marks : List ℕ) : Type 0 where
-  pub long : length text ≤ length marks * 64
-  pub at : (b : ℕ) → b * 64 < length text → High text (b * 64) (getD marks b 0)
+  pub long : length text ≤ length marks * stretch
+  pub at : (b : ℕ) → b * stretch < length text → High text (b * stretch) (getD marks b 0)
 
 -- rule i's name is not reserved, and no earlier rule has it
 pub record NameFree (rules : List ℕ) (text : Bytes) (i : ℕ) : Type 0 where
@@ -47,4 +52,4 @@ pub record NameFree (rules : List ℕ) (text : Bytes) (i : ℕ) : Type 0 where
 
 -- refusal 5 does not hold: no name is reserved, and no two are equal
 abbrev pub NamesFine : List ℕ → Bytes → Type 0
-NamesFine rules text = (i : ℕ) → i < length rules / 4 → NameFree rules text i
+NamesFine rules text = (i : ℕ) → i < length rules / ruleWidth → NameFree rules text i

@@ -6,13 +6,14 @@ use mathlib.Core.List.{List}
 use mathlib.Core.Option.{Option, none, some}
 use Prim.Native.Nat.{ℕ, _≤_}
 use lib.ListN.{length}
+use Rattle.grammar.specs.Numbers.{refusedText}
 use Rattle.grammar.specs.Basic.{Bytes}
 use Rattle.grammar.specs.Rows.{Span}
 use Rattle.grammar.specs.Table.{Table, Words, resolveTable}
 use Rattle.grammar.specs.Reading.{readTable, inputKinds}
 use Rattle.grammar.specs.Refusals.{badCounts, badText, badNames, zeroCounts}
 use Rattle.rows.specs.Rows.{Inside}
-use Rattle.names.specs.Names.{Hashed, Ended}
+use Rattle.names.specs.Names.{AllIndexed, Ended}
 use Rattle.refusals.specs.Bytes.{anyFour, zeroRow, NamesFine}
 use Rattle.refusals.specs.declared.Verdict.{Verdict}
 use Rattle.refusals.specs.declared.Verdict.the-variants.{Fine, Refused}
@@ -28,7 +29,7 @@ lowestNamed t = cond (badNames t) 5 (cond (zeroCounts t) 6 0)
 unfoldable pub lowestRead : Bytes → Option (Table Span) → ℕ
 unfolding badText lowestNamed
 lowestRead text none = 3
-lowestRead text (some t) = cond (badText text t) 4 (lowestNamed (resolveTable text t))
+lowestRead text (some t) = cond (badText text t) refusedText (lowestNamed (resolveTable text t))
 
 unfoldable pub lowest : Words → ℕ
 unfolding readTable lowestRead
@@ -41,7 +42,7 @@ numberOf (Refused n) = n
 
 -- refusals 5 and 6 over words: the answer of a check that comes after refusals 2 to 4
 abbrev pub NamesChecked : Verdict → List ℕ → List ℕ → Bytes → List ℕ → Type 0
-NamesChecked Fine rules rows text marks = NamesFine rules text × (anyFour zeroRow rows ≡ false) × Hashed rules text marks × Ended rules marks
+NamesChecked Fine rules rows text marks = NamesFine rules text × (anyFour zeroRow rows ≡ false) × AllIndexed rules text marks × Ended rules marks
 NamesChecked (Refused n) rules rows text marks = ((n ≡ 5) × (NamesFine rules text → ⊥)) ⊎ ((n ≡ 6) × NamesFine rules text × (anyFour zeroRow rows ≡ true))
 
 -- what holds of a table that none of them refuses
@@ -53,7 +54,7 @@ pub record Passed (w : Words) (marks : List ℕ) : Type 0 where
   pub names : badNames (resolveTable (w .text) table) ≡ false
   pub zeros : zeroCounts (resolveTable (w .text) table) ≡ false
   pub inside : Inside (w .rows) (length (w .text))
-  pub hashed : Hashed (w .rules) (w .text) marks
+  pub index : AllIndexed (w .rules) (w .text) marks
   pub ended : Ended (w .rules) marks
 
 -- the answer: its number is the lowest that holds, no refusal has a number below 2, and a fine table stands there

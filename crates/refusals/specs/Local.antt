@@ -5,6 +5,7 @@ use mathlib.Core.List.{List}
 use mathlib.Core.Option.{some}
 use Prim.Native.Nat.{ℕ, _+_, _-_, _≤_, _<_}
 use lib.Dec.{eqb, leb, ltb}
+use Rattle.grammar.specs.Numbers.{kStr, kPeekFrom, kPeekSlice, kPosPred, kRepExact, kRepMinMax, kPush}
 use Rattle.grammar.specs.Tree.{Expr}
 use Rattle.grammar.specs.Rows.{Span}
 use Rattle.grammar.specs.Table.{Table}
@@ -19,10 +20,10 @@ upTo most k = leb k most
 
 -- kinds whose x or y mean something
 abbrev pub usesX : ℕ → Bool
-usesX k = cond (ltb k 6) true (cond (ltb k 13) false (ltb k 18))
+usesX k = cond (ltb k kPosPred) true (cond (ltb k kRepExact) false (ltb k kPush))
 
 abbrev pub usesY : ℕ → Bool
-usesY k = cond (ltb k 4) true (cond (eqb k 5) true (eqb k 16))
+usesY k = cond (ltb k kPeekFrom) true (cond (eqb k kPeekSlice) true (eqb k kRepMinMax))
 
 -- "unused x and y are 0"
 unfoldable pub unusedZero : ℕ → ℕ → ℕ → Bool
@@ -41,7 +42,7 @@ pub record TwoFits (w : List ℕ) (i n : ℕ) : Type 0 where
 -- over k strings: the k rows before are Str rows
 pub record SkipFits (w : List ℕ) (i k n : ℕ) : Type 0 where
   pub there : k ≤ i
-  pub strs : (j : ℕ) → i ≤ j + k → j < i → kindAt w j ≡ 0
+  pub strs : (j : ℕ) → i ≤ j + k → j < i → kindAt w j ≡ kStr
   pub sum : n ≡ k + 1
 
 abbrev pub Below : Shape → List ℕ → ℕ → ℕ → ℕ → Type 0

@@ -4,16 +4,62 @@ ghost use mathlib.Core.Bool.{false, _||_};
 ghost use Prim.Native.Nat.{ℕ, _+_, _-_, _*_, _/_, _%_, _^_, _≤_, _<_};
 ghost use lib.ListN.{length, take, drop, getD};
 ghost use lib.Dec.{eqb};
+ghost use Rattle.grammar.specs.Numbers.{ruleWidth, rowWidth, markWidth, kStr, kRestoreOnErr};
 ghost use Rattle.grammar.specs.Basic.{member};
-ghost use Rattle.grammar.specs.Refusals.{badCounts, badSpan, reserved};
+ghost use Rattle.grammar.specs.Refusals.{badCounts, badSpan, reserved, maxRules, maxText};
 ghost use Rattle.rows.specs.Rows.{Tells, kindAt};
-ghost use Rattle.names.specs.Names.{nameOf, rowsBefore, NamesInside};
+ghost use Rattle.names.specs.Names.{nameOf, rowsBefore, NamesInside, fewRules};
 ghost use Rattle.refusals.specs.Local.{upTo, usesX, usesY, unusedZero, OneFits, TwoFits, SkipFits, RowFits, IsTree, IsTable};
 ghost use Rattle.refusals.specs.Bytes.{anyFour, badName, badRow, zeroRow, High, Indexed};
 ghost use Rattle.refusals.specs.Check.{lent, NamesChecked, Checked};
+use grammar::IDENT;
+use grammar::LAST_ASCII;
+use grammar::LENGTH;
+use grammar::MARK_WIDTH;
+use grammar::NON_ATOMIC;
+use grammar::PEEK_SLICE;
+use grammar::PEEK_SLICE_END;
+use grammar::POS_PRED;
+use grammar::PUSH;
+use grammar::RANGE;
+use grammar::REFUSED_COUNT;
+use grammar::REFUSED_NAMES;
+use grammar::REFUSED_SHAPE;
+use grammar::REFUSED_SIZE;
+use grammar::REFUSED_TEXT;
+use grammar::REP_EXACT;
+use grammar::REP_MAX;
+use grammar::REP_MIN_MAX;
+use grammar::ROW_WIDTH;
+use grammar::ROWS;
+use grammar::RULE_WIDTH;
+use grammar::SIZE;
+use grammar::STR;
+use grammar::TYPE;
+use grammar::X;
+use grammar::Y;
 use rows::Lookup;
 use rows::Shape;
 use rows::wide;
+
+// Full size: 256 rules, 4,096 rows, 65,536 bytes of text.
+pub const FULL_RULES: usize = 256 * RULE_WIDTH;
+
+pub const FULL_ROWS: usize = 4096 * ROW_WIDTH;
+
+pub const FULL_TEXT: usize = 65536;
+
+pub const FULL_MARKS: usize = 256 * MARK_WIDTH;
+
+// The last byte that is ASCII, and the first that is not.
+const LAST_BYTE: u8 = 127;
+
+const FIRST_HIGH: u8 = 128;
+
+// The marks remember, for each stretch of so many bytes, where the next byte above 127 is.
+const STRETCH: usize = 64;
+
+const LAST_OF_STRETCH: usize = 63;
 
 // What a check finds: nothing to refuse, or a refusal's number.
 pub enum Verdict {
@@ -27,19 +73,19 @@ pub enum Verdict {
 pub fn bad_counts(rules: &[u32], rows: &[u32], text: &[u8]) -> bool
     ensures { λ r. ⌜ r ≡ badCounts (lent (now (rules .entry)) (now (rows .entry)) (now (text .entry))) ⌝ }
 {
-    if rules.len() % 4 != 0 {
+    if rules.len() % RULE_WIDTH != 0 {
         return true;
     }
-    if rows.len() % 4 != 0 {
+    if rows.len() % ROW_WIDTH != 0 {
         return true;
     }
-    if 1024 < rules.len() {
+    if FULL_RULES < rules.len() {
         return true;
     }
-    if 16384 < rows.len() {
+    if FULL_ROWS < rows.len() {
         return true;
     }
-    65536 < text.len()
+    FULL_TEXT < text.len()
 }
 
 // ---- refusal 3
@@ -48,26 +94,26 @@ pub fn bad_counts(rules: &[u32], rows: &[u32], text: &[u8]) -> bool
 fn uses_x(kind: u32) -> bool
     ensures { λ r. ⌜ r ≡ usesX kind ⌝ }
 {
-    if kind < 6 {
+    if kind < POS_PRED {
         return true;
     }
-    if kind < 13 {
+    if kind < REP_EXACT {
         return false;
     }
-    kind < 18
+    kind < PUSH
 }
 
 // Whether a kind's y means something.
 fn uses_y(kind: u32) -> bool
     ensures { λ r. ⌜ r ≡ usesY kind ⌝ }
 {
-    if kind < 4 {
+    if kind < PEEK_SLICE {
         return true;
     }
-    if kind == 5 {
+    if kind == PEEK_SLICE_END {
         return true;
     }
-    kind == 16
+    kind == REP_MIN_MAX
 }
 
 // Whether x is 0 where its kind does not use it.
@@ -85,7 +131,7 @@ fn unused_zero(kind: u32, x: u32, y: u32) -> bool
     ensures { λ r. ⌜ r ≡ unusedZero kind x y ⌝ }
 {
     // a literal uses both
-    if kind < 4 {
+    if kind < PEEK_SLICE {
         return true;
     }
     if y == 0 {
@@ -99,40 +145,40 @@ fn unused_zero(kind: u32, x: u32, y: u32) -> bool
 
 // Whether a row of size n at i has one child before it.
 fn one_fits(rows: &[u32], i: usize, n: usize) -> bool
-    requires { ⌜ i < length (now rows) / 4 ⌝ }
+    requires { ⌜ i < length (now rows) / rowWidth ⌝ }
     ensures { λ r. ⌜ Tells r (OneFits (now (rows .entry)) i n) ⌝ }
 {
     if i == 0 {
         return false;
     }
-    let child = wide(rows[(i - 1) * 4 + 3]);
+    let child = wide(rows[(i - 1) * ROW_WIDTH + SIZE]);
     n == child + 1
 }
 
 // Whether a row of size n at i has two children before it.
 fn two_fits(rows: &[u32], i: usize, n: usize) -> bool
-    requires { ⌜ i < length (now rows) / 4 ⌝ }
+    requires { ⌜ i < length (now rows) / rowWidth ⌝ }
     ensures { λ r. ⌜ Tells r (TwoFits (now (rows .entry)) i n) ⌝ }
 {
     if i == 0 {
         return false;
     }
-    let right = wide(rows[(i - 1) * 4 + 3]);
+    let right = wide(rows[(i - 1) * ROW_WIDTH + SIZE]);
     if i <= right {
         return false;
     }
-    let left = wide(rows[(i - 1 - right) * 4 + 3]);
+    let left = wide(rows[(i - 1 - right) * ROW_WIDTH + SIZE]);
     n == left + right + 1
 }
 
 // Whether rows from..to are Str rows.
 fn strs(rows: &[u32], from: usize, to: usize) -> bool
-    requires { ⌜ (from ≤ to) × (to ≤ length (now rows) / 4) ⌝ }
-    ensures { λ r. ⌜ Tells r ((j : ℕ) → from ≤ j → j < to → kindAt (now (rows .entry)) j ≡ 0) ⌝ }
+    requires { ⌜ (from ≤ to) × (to ≤ length (now rows) / rowWidth) ⌝ }
+    ensures { λ r. ⌜ Tells r ((j : ℕ) → from ≤ j → j < to → kindAt (now (rows .entry)) j ≡ kStr) ⌝ }
 {
     let mut j = from;
     while j < to {
-        if rows[j * 4] != 0 {
+        if rows[j * ROW_WIDTH] != STR {
             return false;
         }
         j += 1;
@@ -142,7 +188,7 @@ fn strs(rows: &[u32], from: usize, to: usize) -> bool
 
 // Whether a row of size n at i has k strings before it.
 fn skip_fits(rows: &[u32], i: usize, k: usize, n: usize) -> bool
-    requires { ⌜ i < length (now rows) / 4 ⌝ }
+    requires { ⌜ i < length (now rows) / rowWidth ⌝ }
     ensures { λ r. ⌜ Tells r (SkipFits (now (rows .entry)) i k n) ⌝ }
 {
     if i < k {
@@ -156,7 +202,7 @@ fn skip_fits(rows: &[u32], i: usize, k: usize, n: usize) -> bool
 
 // Whether row i is right, with kinds up to `most`.
 fn row_fits(rows: &[u32], i: usize, most: u32) -> bool
-    requires { ⌜ i < length (now rows) / 4 ⌝ }
+    requires { ⌜ i < length (now rows) / rowWidth ⌝ }
     ensures { λ r. ⌜ Tells r (RowFits most (now (rows .entry)) i) ⌝ }
 {
     let Lookup::Row {
@@ -185,10 +231,10 @@ fn row_fits(rows: &[u32], i: usize, most: u32) -> bool
 
 // Whether these rows are one tree's.
 fn one_tree(rows: &[u32], most: u32) -> bool
-    requires { ⌜ (length (now rows) % 4 ≡ 0) × (most ≤ 19) ⌝ }
+    requires { ⌜ (length (now rows) % rowWidth ≡ 0) × (most ≤ kRestoreOnErr) ⌝ }
     ensures { λ r. ⌜ Tells r (IsTree (upTo most) (now (rows .entry))) ⌝ }
 {
-    let count = rows.len() / 4;
+    let count = rows.len() / ROW_WIDTH;
     if count == 0 {
         return false;
     }
@@ -199,34 +245,34 @@ fn one_tree(rows: &[u32], most: u32) -> bool
         }
         i += 1;
     }
-    wide(rows[(count - 1) * 4 + 3]) == count
+    wide(rows[(count - 1) * ROW_WIDTH + SIZE]) == count
 }
 
 // Whether rows from..to are one tree's.
 fn rule_tree(rows: &[u32], from: usize, to: usize, most: u32) -> bool
-    requires { ⌜ (from ≤ to) × (to ≤ length (now rows) / 4) × (most ≤ 19) ⌝ }
-    ensures { λ r. ⌜ Tells r (IsTree (upTo most) (take (4 * (to - from)) (drop (from * 4) (now (rows .entry))))) ⌝ }
+    requires { ⌜ (from ≤ to) × (to ≤ length (now rows) / rowWidth) × (most ≤ kRestoreOnErr) ⌝ }
+    ensures { λ r. ⌜ Tells r (IsTree (upTo most) (take (rowWidth * (to - from)) (drop (from * rowWidth) (now (rows .entry))))) ⌝ }
 {
-    let a = from * 4;
-    let e = to * 4;
+    let a = from * ROW_WIDTH;
+    let e = to * ROW_WIDTH;
     one_tree(&rows[a..e], most)
 }
 
 // Refusal 3: whether the words are a table's, with kinds up to `most`.
 pub fn trees(rules: &[u32], rows: &[u32], most: u32) -> bool
-    requires { ⌜ (length (now rules) % 4 ≡ 0) × (length (now rows) % 4 ≡ 0) × (most ≤ 19) ⌝ }
+    requires { ⌜ (length (now rules) % ruleWidth ≡ 0) × (length (now rows) % rowWidth ≡ 0) × (most ≤ kRestoreOnErr) ⌝ }
     ensures { λ r. ⌜ Tells r (IsTable (upTo most) (now (rules .entry)) (now (rows .entry))) ⌝ }
 {
-    let count = rules.len() / 4;
-    let total = rows.len() / 4;
+    let count = rules.len() / RULE_WIDTH;
+    let total = rows.len() / ROW_WIDTH;
     let mut i = 0;
     let mut from = 0;
     while i < count {
-        let at = i * 4;
-        if rules[at + 2] > 4 {
+        let at = i * RULE_WIDTH;
+        if rules[at + TYPE] > NON_ATOMIC {
             return false;
         }
-        let n = wide(rules[at + 3]);
+        let n = wide(rules[at + ROWS]);
         if total - from < n {
             return false;
         }
@@ -249,7 +295,7 @@ fn next_high(text: &[u8], p: usize, stop: usize, other: usize) -> usize
 {
     let mut i = p;
     while i < stop {
-        if text[i] > 127 {
+        if text[i] > LAST_BYTE {
             return i;
         }
         i += 1;
@@ -284,7 +330,7 @@ fn first_high(text: &[u8], p: usize, stop: usize, other: usize) -> usize
     requires { ⌜ High (now text) stop other ⌝ }
     ensures { λ r. ⌜ High (now (text .entry)) p r ⌝ }
 {
-    if highest(text, p, stop) < 128 {
+    if highest(text, p, stop) < FIRST_HIGH {
         return other;
     }
     next_high(text, p, stop, other)
@@ -292,17 +338,17 @@ fn first_high(text: &[u8], p: usize, stop: usize, other: usize) -> usize
 
 // Writes for each 64 bytes of the text where the first byte above 127 from there on is; the first of all comes back.
 fn index_high(text: &[u8], marks: &mut [u32]) -> usize
-    requires { ⌜ (length (now text) ≤ 65536) × (1024 ≤ length (now marks)) ⌝ }
+    requires { ⌜ (length (now text) ≤ maxText) × (markWidth * maxRules ≤ length (now marks)) ⌝ }
     ensures { λ r. ⌜ High (now (text .entry)) 0 r × Indexed (now (text .entry)) (now (marks .exit)) ⌝ }
 {
     let mut stop = text.len();
     let mut next = stop;
-    let mut b = (stop + 63) / 64;
+    let mut b = (stop + LAST_OF_STRETCH) / STRETCH;
     while 0 < b {
         b -= 1;
-        next = first_high(text, b * 64, stop, next);
+        next = first_high(text, b * STRETCH, stop, next);
         marks[b] = next as u32;
-        stop = b * 64;
+        stop = b * STRETCH;
     }
     next
 }
@@ -313,8 +359,8 @@ fn high_from(text: &[u8], marks: &[u32], x: usize) -> usize
     requires { ⌜ Indexed (now text) (now marks) ⌝ }
     ensures { λ r. ⌜ High (now (text .entry)) x r ⌝ }
 {
-    let b = x / 64 + 1;
-    let at = b * 64;
+    let b = x / STRETCH + 1;
+    let at = b * STRETCH;
     if at < text.len() {
         return next_high(text, x, at, wide(marks[b]));
     }
@@ -343,11 +389,11 @@ fn bad_rules(rules: &[u32], text: &[u8], marks: &[u32], first: usize) -> bool
     requires { ⌜ Indexed (now text) (now marks) ⌝ }
     ensures { λ r. ⌜ r ≡ anyFour (badName (now (text .entry))) (now (rules .entry)) ⌝ }
 {
-    let count = rules.len() / 4;
+    let count = rules.len() / RULE_WIDTH;
     let mut i = 0;
     while i < count {
-        let at = i * 4;
-        if bad_span(text, marks, first, rules[at], rules[at + 1]) {
+        let at = i * RULE_WIDTH;
+        if bad_span(text, marks, first, rules[at], rules[at + LENGTH]) {
             return true;
         }
         i += 1;
@@ -361,14 +407,14 @@ fn bad_row(text: &[u8], marks: &[u32], first: usize, kind: u32, x: u32, y: u32) 
     requires { ⌜ Indexed (now text) (now marks) ⌝ }
     ensures { λ r. ⌜ r ≡ badRow (now (text .entry)) kind x y ⌝ }
 {
-    if 3 < kind {
+    if IDENT < kind {
         return false;
     }
-    if kind == 2 {
-        if 127 < x {
+    if kind == RANGE {
+        if LAST_ASCII < x {
             return true;
         }
-        return 127 < y;
+        return LAST_ASCII < y;
     }
     bad_span(text, marks, first, x, y)
 }
@@ -379,11 +425,11 @@ fn bad_rows(rows: &[u32], text: &[u8], marks: &[u32], first: usize) -> bool
     requires { ⌜ Indexed (now text) (now marks) ⌝ }
     ensures { λ r. ⌜ r ≡ anyFour (badRow (now (text .entry))) (now (rows .entry)) ⌝ }
 {
-    let count = rows.len() / 4;
+    let count = rows.len() / ROW_WIDTH;
     let mut i = 0;
     while i < count {
-        let at = i * 4;
-        if bad_row(text, marks, first, rows[at], rows[at + 1], rows[at + 2]) {
+        let at = i * ROW_WIDTH;
+        if bad_row(text, marks, first, rows[at], rows[at + X], rows[at + Y]) {
             return true;
         }
         i += 1;
@@ -393,7 +439,7 @@ fn bad_rows(rows: &[u32], text: &[u8], marks: &[u32], first: usize) -> bool
 
 // Refusal 4: some name or literal is not in the text or not ASCII, or some Range is not.
 pub fn bad_text(rules: &[u32], rows: &[u32], text: &[u8], marks: &mut [u32]) -> bool
-    requires { ⌜ (length (now text) ≤ 65536) × (1024 ≤ length (now marks)) ⌝ }
+    requires { ⌜ (length (now text) ≤ maxText) × (markWidth * maxRules ≤ length (now marks)) ⌝ }
     ensures { λ r. ⌜ r ≡ (anyFour (badName (now (text .entry))) (now (rules .entry)) || anyFour (badRow (now (text .entry))) (now (rows .entry))) ⌝ }
 {
     let first = index_high(text, marks);
@@ -408,19 +454,19 @@ pub fn bad_text(rules: &[u32], rows: &[u32], text: &[u8], marks: &mut [u32]) -> 
 // Whether rule i's name is reserved.
 fn name_reserved(rules: &[u32], text: &[u8], i: usize) -> bool
     requires { ⌜ NamesInside (now rules) (length (now text)) ⌝ }
-    requires { ⌜ i < length (now rules) / 4 ⌝ }
+    requires { ⌜ i < length (now rules) / ruleWidth ⌝ }
     ensures { λ r. ⌜ r ≡ member (nameOf (now (rules .entry)) (now (text .entry)) i) reserved ⌝ }
 {
-    let at = i * 4;
-    names::reserved(text, wide(rules[at]), wide(rules[at + 1]))
+    let at = i * RULE_WIDTH;
+    names::reserved(text, wide(rules[at]), wide(rules[at + LENGTH]))
 }
 
 // Whether no name is reserved.
 fn none_reserved(rules: &[u32], text: &[u8]) -> bool
     requires { ⌜ NamesInside (now rules) (length (now text)) ⌝ }
-    ensures { λ r. ⌜ Tells r ((i : ℕ) → i < length (now (rules .entry)) / 4 → member (nameOf (now (rules .entry)) (now (text .entry)) i) reserved ≡ false) ⌝ }
+    ensures { λ r. ⌜ Tells r ((i : ℕ) → i < length (now (rules .entry)) / ruleWidth → member (nameOf (now (rules .entry)) (now (text .entry)) i) reserved ≡ false) ⌝ }
 {
-    let count = rules.len() / 4;
+    let count = rules.len() / RULE_WIDTH;
     let mut i = 0;
     while i < count {
         if name_reserved(rules, text, i) {
@@ -438,16 +484,16 @@ fn zero_row(kind: u32, x: u32, y: u32) -> bool
     ensures { λ r. ⌜ r ≡ zeroRow kind x y ⌝ }
 {
     // nearly every row
-    if kind < 13 {
+    if kind < REP_EXACT {
         return false;
     }
-    if kind == 13 {
+    if kind == REP_EXACT {
         return x == 0;
     }
-    if kind == 15 {
+    if kind == REP_MAX {
         return x == 0;
     }
-    if kind == 16 {
+    if kind == REP_MIN_MAX {
         return y == 0;
     }
     false
@@ -457,11 +503,11 @@ fn zero_row(kind: u32, x: u32, y: u32) -> bool
 pub fn zero_counts(rows: &[u32]) -> bool
     ensures { λ r. ⌜ r ≡ anyFour zeroRow (now (rows .entry)) ⌝ }
 {
-    let count = rows.len() / 4;
+    let count = rows.len() / ROW_WIDTH;
     let mut i = 0;
     while i < count {
-        let at = i * 4;
-        if zero_row(rows[at], rows[at + 1], rows[at + 2]) {
+        let at = i * ROW_WIDTH;
+        if zero_row(rows[at], rows[at + X], rows[at + Y]) {
             return true;
         }
         i += 1;
@@ -474,17 +520,17 @@ pub fn zero_counts(rows: &[u32]) -> bool
 // Refusals 5 and 6 of a table that can be read and whose names and literals are right. The marks then hold the index of names and the rules' ends.
 fn check_names(rules: &[u32], rows: &[u32], text: &[u8], marks: &mut [u32]) -> Verdict
     requires { ⌜ NamesInside (now rules) (length (now text)) ⌝ }
-    requires { ⌜ (length (now rules) / 4 * 4 ≤ length (now marks)) × (length (now rules) / 4 < 32768) × (length (now text) ≤ 65536) × (rowsBefore (now rules) (length (now rules) / 4) < 2 ^ 32) ⌝ }
+    requires { ⌜ (length (now rules) / ruleWidth * markWidth ≤ length (now marks)) × (length (now rules) / ruleWidth < fewRules) × (length (now text) ≤ maxText) × (rowsBefore (now rules) (length (now rules) / ruleWidth) < 2 ^ 32) ⌝ }
     ensures { λ v. ⌜ NamesChecked v (now (rules .entry)) (now (rows .entry)) (now (text .entry)) (now (marks .exit)) ⌝ }
 {
     if !names::index_names(rules, text, marks) {
-        return Verdict::Refused(5);
+        return Verdict::Refused(REFUSED_NAMES);
     }
     if !none_reserved(rules, text) {
-        return Verdict::Refused(5);
+        return Verdict::Refused(REFUSED_NAMES);
     }
     if zero_counts(rows) {
-        return Verdict::Refused(6);
+        return Verdict::Refused(REFUSED_COUNT);
     }
     names::mark_ends(rules, marks);
     Verdict::Fine
@@ -494,17 +540,17 @@ fn check_names(rules: &[u32], rows: &[u32], text: &[u8], marks: &mut [u32]) -> V
 // Each row is read three times, each byte once or twice, each name compared with one other, and a literal past a byte above 127 costs at most 64
 // bytes more.
 pub fn check(rules: &[u32], rows: &[u32], text: &[u8], marks: &mut [u32]) -> Verdict
-    requires { ⌜ 1024 ≤ length (now marks) ⌝ }
+    requires { ⌜ markWidth * maxRules ≤ length (now marks) ⌝ }
     ensures { λ v. ⌜ Checked v (lent (now (rules .entry)) (now (rows .entry)) (now (text .entry))) (now (marks .exit)) ⌝ }
 {
     if bad_counts(rules, rows, text) {
-        return Verdict::Refused(2);
+        return Verdict::Refused(REFUSED_SIZE);
     }
-    if !trees(rules, rows, 18) {
-        return Verdict::Refused(3);
+    if !trees(rules, rows, PUSH) {
+        return Verdict::Refused(REFUSED_SHAPE);
     }
     if bad_text(rules, rows, text, marks) {
-        return Verdict::Refused(4);
+        return Verdict::Refused(REFUSED_TEXT);
     }
     check_names(rules, rows, text, marks)
 }

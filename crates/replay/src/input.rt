@@ -1,54 +1,103 @@
-// Reading cases: the input goes through one area, in which a whole case always fits.
+// Reading cases.
 ghost use mathlib.Core.Path.{_≡_};
-ghost use Prim.Native.Nat.{_+_, _*_, _-_, _≤_};
+ghost use Prim.Native.Nat.{_+_, _*_, _≤_};
 ghost use lib.ListN.{length};
 ghost use Rattle.io.specs.Counts.{Counts};
-ghost use Rattle.replay.specs.Run.{Room, Counted, Within};
+ghost use Rattle.replay.specs.Run.{Counted};
+use areas::ROWS_AREA;
+use areas::RULES_AREA;
 
-pub fn area() -> [u8; 262144] {
-    [0; 262144]
+// What a case may carry: 1,040 rule words, 16,400 row words and 65,600 bytes of text.
+const TEXT: usize = 65600;
+
+pub const CASE_BYTES: usize = 135360;
+
+// What a case that is carried has behind its first four words always fits.
+pub fn area() -> [u8; CASE_BYTES] {
+    [0; CASE_BYTES]
 }
 
-// What is read and not yet used: [at..end].
-pub struct Held {
-    pub at: usize,
-    pub end: usize,
-}
-
-// A case's first four words, if what they count is carried (`carried`); else zeros.
-pub struct Head {
-    pub rules: usize,
-    pub rows: usize,
-    pub text: usize,
-    pub short: u32,
-    pub carried: bool,
-}
-
-// A case: its rule words stand from `at` on, its row words behind them, its text in [text..next], the rest of what is read in
-// [next..end]. Not `whole`: there is none.
+// A case's first four words, if what they count is carried and there: `whole`; else zeros.
 pub struct Case {
     pub rules: usize,
     pub rows: usize,
-    pub short: u32,
-    pub at: usize,
     pub text: usize,
-    pub next: usize,
-    pub end: usize,
+    pub short: u32,
     pub whole: bool,
 }
 
-fn wide(b: u8) -> u32 {
-    b as u32
+// The next case, what its words count in front of the area.
+pub fn next(b: &mut [u8]) -> Case
+    requires { ⌜ 135360 ≤ length (now b) ⌝ }
+    ensures { λ r. ⌜ Counted r ⌝ }
+{
+    let c = head(b);
+    let n = 4 * c.rules + 4 * c.rows + c.text;
+    if read(b, n) { c } else { none() }
+}
+
+// Whether the next n bytes are there; then they stand in front of the area.
+fn read(b: &mut [u8], n: usize) -> bool
+    requires { ⌜ n ≤ length (now b) ⌝ }
+{
+    io::read_full(0, &mut b[..n]) == n
+}
+
+fn head(b: &mut [u8]) -> Case
+    requires { ⌜ 16 ≤ length (now b) ⌝ }
+    ensures { λ r. ⌜ Counted r ⌝ }
+{
+    if !read(b, 16) {
+        return none();
+    }
+    head_at(b)
+}
+
+fn head_at(b: &[u8]) -> Case
+    requires { ⌜ 16 ≤ length (now b) ⌝ }
+    ensures { λ r. ⌜ Counted r ⌝ }
+{
+    head_of(
+        count(word_at(b, 0)),
+        count(word_at(b, 4)),
+        count(word_at(b, 8)),
+        word_at(b, 12),
+    )
+}
+
+fn head_of(rules: usize, rows: usize, text: usize, short: u32) -> Case
+    ensures { λ r. ⌜ Counted r ⌝ }
+{
+    if rules <= RULES_AREA {
+        if rows <= ROWS_AREA {
+            if text <= TEXT {
+                return Case {
+                    rules,
+                    rows,
+                    text,
+                    short,
+                    whole: true,
+                };
+            }
+        }
+    }
+    none()
+}
+
+fn none() -> Case
+    ensures { λ r. ⌜ Counted r ⌝ }
+{
+    Case {
+        rules: 0,
+        rows: 0,
+        text: 0,
+        short: 0,
+        whole: false,
+    }
 }
 
 fn count(w: u32) -> usize {
     w as usize
-}
-
-fn word_at(b: &[u8], i: usize) -> u32
-    requires { ⌜ i + 4 ≤ length (now b) ⌝ }
-{
-    wide(b[i]) | wide(b[i + 1]) << 8 | wide(b[i + 2]) << 16 | wide(b[i + 3]) << 24
 }
 
 // The n words from `from` on; the place after them.
@@ -68,180 +117,12 @@ pub fn words(b: &[u8], from: usize, into: &mut [u32], n: usize) -> usize
     at
 }
 
-// The next case, with its rule and row words in front of the areas for them.
-pub fn next(b: &mut [u8], rules: &mut [u32], rows: &mut [u32], at: usize, end: usize) -> Case
-    requires { ⌜ Room (now b) (now rules) (now rows) ⌝ }
-    requires { ⌜ (at ≤ end) × (end ≤ length (now b)) ⌝ }
-    ensures { λ r. ⌜ Within r (length (now (b .entry))) ⌝ }
-    ensures { λ r. ⌜ Counts (r .rules) (now (rules .exit)) ⌝ }
-    ensures { λ r. ⌜ Counts (r .rows) (now (rows .exit)) ⌝ }
+fn word_at(b: &[u8], i: usize) -> u32
+    requires { ⌜ i + 4 ≤ length (now b) ⌝ }
 {
-    let c = take(b, at, end);
-    let n = c.rules;
-    let m = c.rows;
-    let rows_at = words(b, c.at, rules, n);
-    words(b, rows_at, rows, m);
-    c
+    wide(b[i]) | wide(b[i + 1]) << 8 | wide(b[i + 2]) << 16 | wide(b[i + 3]) << 24
 }
 
-fn take(b: &mut [u8], at: usize, end: usize) -> Case
-    requires { ⌜ (at ≤ end) × (end ≤ length (now b)) × (135376 ≤ length (now b)) ⌝ }
-    ensures { λ r. ⌜ Within r (length (now (b .entry))) ⌝ }
-{
-    let first = more(b, at, end, 16);
-    if first.end - first.at < 16 {
-        return none();
-    }
-    counted(b, first.at, first.end)
-}
-
-// Its first four words stand there.
-fn counted(b: &mut [u8], at: usize, end: usize) -> Case
-    requires { ⌜ (at + 16 ≤ end) × (end ≤ length (now b)) × (135376 ≤ length (now b)) ⌝ }
-    ensures { λ r. ⌜ Within r (length (now (b .entry))) ⌝ }
-{
-    let h = head_at(b, at);
-    if !h.carried {
-        return none();
-    }
-    filled(b, at, end, h)
-}
-
-fn filled(b: &mut [u8], at: usize, end: usize, h: Head) -> Case
-    requires { ⌜ Counted h ⌝ }
-    requires { ⌜ (at ≤ end) × (end ≤ length (now b)) × (135376 ≤ length (now b)) ⌝ }
-    ensures { λ r. ⌜ Within r (length (now (b .entry))) ⌝ }
-{
-    let size = 16 + 4 * h.rules + 4 * h.rows + h.text;
-    let all = more(b, at, end, size);
-    if all.end - all.at < size {
-        return none();
-    }
-    found(h, all)
-}
-
-fn none() -> Case
-    ensures { λ r. ⌜ r .end ≡ 0 ⌝ }
-    ensures { λ r. ⌜ Within r 0 ⌝ }
-{
-    Case {
-        rules: 0,
-        rows: 0,
-        short: 0,
-        at: 0,
-        text: 0,
-        next: 0,
-        end: 0,
-        whole: false,
-    }
-}
-
-fn found(h: Head, all: Held) -> Case
-    requires { ⌜ Counted h ⌝ }
-    requires { ⌜ all .at + 16 + 4 * h .rules + 4 * h .rows + h .text ≤ all .end ⌝ }
-    ensures { λ r. ⌜ Within r (all .end) ⌝ }
-{
-    let at = all.at + 16;
-    let text = at + 4 * h.rules + 4 * h.rows;
-    Case {
-        rules: h.rules,
-        rows: h.rows,
-        short: h.short,
-        at,
-        text,
-        next: text + h.text,
-        end: all.end,
-        whole: true,
-    }
-}
-
-fn head_at(b: &[u8], at: usize) -> Head
-    requires { ⌜ at + 16 ≤ length (now b) ⌝ }
-    ensures { λ r. ⌜ Counted r ⌝ }
-{
-    head_of(
-        count(word_at(b, at)),
-        count(word_at(b, at + 4)),
-        count(word_at(b, at + 8)),
-        word_at(b, at + 12),
-    )
-}
-
-fn head_of(rules: usize, rows: usize, text: usize, short: u32) -> Head
-    ensures { λ r. ⌜ Counted r ⌝ }
-{
-    if rules <= 1040 {
-        if rows <= 16400 {
-            if text <= 65600 {
-                return Head {
-                    rules,
-                    rows,
-                    text,
-                    short,
-                    carried: true,
-                };
-            }
-        }
-    }
-    Head {
-        rules: 0,
-        rows: 0,
-        text: 0,
-        short: 0,
-        carried: false,
-    }
-}
-
-// At least n bytes held, or all that the input still has.
-fn more(b: &mut [u8], at: usize, end: usize, n: usize) -> Held
-    requires { ⌜ (at ≤ end) × (end ≤ length (now b)) ⌝ }
-    ensures { λ r. ⌜ (r .at ≤ r .end) × (r .end ≤ length (now (b .entry))) ⌝ }
-{
-    if n <= end - at {
-        return Held { at, end };
-    }
-    let left = to_front(b, at, end);
-    Held {
-        at: 0,
-        end: read_on(b, left, n),
-    }
-}
-
-fn to_front(b: &mut [u8], at: usize, end: usize) -> usize
-    requires { ⌜ (at ≤ end) × (end ≤ length (now b)) ⌝ }
-    ensures { λ r. ⌜ r ≤ length (now (b .entry)) ⌝ }
-{
-    let mut i = 0;
-    let mut from = at;
-    while from < end {
-        b[i] = b[from];
-        i += 1;
-        from += 1;
-    }
-    i
-}
-
-// Reads behind the first `have` bytes until there are n.
-fn read_on(b: &mut [u8], have: usize, n: usize) -> usize
-    requires { ⌜ have ≤ length (now b) ⌝ }
-    ensures { λ r. ⌜ r ≤ length (now (b .entry)) ⌝ }
-{
-    let mut end = have;
-    while end < n {
-        let got = read_once(b, end);
-        if got == 0 {
-            return end;
-        }
-        end += got;
-    }
-    end
-}
-
-fn read_once(b: &mut [u8], at: usize) -> usize
-    requires { ⌜ at ≤ length (now b) ⌝ }
-    ensures { λ r. ⌜ at + r ≤ length (now (b .entry)) ⌝ }
-{
-    let part = &mut b[at..];
-    let got = libc::read(0, part);
-    io::count(got, part)
+fn wide(b: u8) -> u32 {
+    b as u32
 }

@@ -1,12 +1,17 @@
 // Writing answers: they are gathered in one area, which is written where the next piece has no room.
-ghost use mathlib.Core.Path.{_≡_};
 ghost use Prim.Native.Nat.{_+_, _*_, _≤_};
 ghost use lib.ListN.{length};
-ghost use Rattle.replay.specs.Run.{Outs};
+use areas::ROWS_AREA;
+use areas::RULES_AREA;
+use areas::TEXT_AREA;
 use optimizer::Answer;
+use optimizer::REPORT;
 
-pub fn area() -> [u8; 131072] {
-    [0; 131072]
+// So many bytes of answers are gathered.
+pub const ANSWERS: usize = 131072;
+
+pub fn area() -> [u8; ANSWERS] {
+    [0; ANSWERS]
 }
 
 // Where the next piece goes, and whether the area that was given out is unchanged past its answer.
@@ -21,46 +26,58 @@ pub fn write(answers: &[u8], put: usize)
     io::write_all(1, &answers[..put]);
 }
 
-// An answer, behind what stands there; the output areas are filled anew.
+// The answer to a table, behind what stands there.
 pub fn give(
     answers: &mut [u8],
     put: usize,
-    a: Answer,
-    out_rules: &mut [u32],
-    out_rows: &mut [u32],
-    out_text: &mut [u8],
+    short: u32,
+    rules: &[u32],
+    rows: &[u32],
+    text: &[u8],
 ) -> usize
-    requires { ⌜ put ≤ length (now answers) ⌝ }
-    requires { ⌜ Outs (now answers) (now «out_rules») (now «out_rows») (now «out_text») ⌝ }
+    requires { ⌜ (put ≤ length (now answers)) × (131072 ≤ length (now answers)) ⌝ }
     ensures { λ r. ⌜ r ≤ length (now (answers .entry)) ⌝ }
 {
-    let start = numbers(answers, put, a);
-    tables(answers, start, a, out_rules, out_rows, out_text)
+    let mut out_rules = areas::rules();
+    let mut out_rows = areas::rows();
+    let mut out_text = areas::text();
+    let a = areas::answer(
+        short,
+        rules,
+        rows,
+        text,
+        &mut out_rules,
+        &mut out_rows,
+        &mut out_text,
+    );
+    put_answer(answers, put, a, &out_rules, &out_rows, &out_text)
 }
 
-fn tables(
+fn put_answer(
     answers: &mut [u8],
     put: usize,
     a: Answer,
-    out_rules: &mut [u32],
-    out_rows: &mut [u32],
-    out_text: &mut [u8],
+    out_rules: &[u32; RULES_AREA],
+    out_rows: &[u32; ROWS_AREA],
+    out_text: &[u8; TEXT_AREA],
 ) -> usize
-    requires { ⌜ put ≤ length (now answers) ⌝ }
-    requires { ⌜ Outs (now answers) (now «out_rules») (now «out_rows») (now «out_text») ⌝ }
+    requires { ⌜ (put ≤ length (now answers)) × (131072 ≤ length (now answers)) ⌝ }
     ensures { λ r. ⌜ r ≤ length (now (answers .entry)) ⌝ }
 {
+    let put = numbers(answers, put, a);
     let rules = give_words(answers, put, out_rules, a.rules);
     let rows = give_words(answers, rules.put, out_rows, a.rows);
-    last(answers, rows.put, rules.same && rows.same, out_text, a.text)
+    last(answers, rows.put, rules.same & rows.same, out_text, a.text)
 }
 
-fn last(answers: &mut [u8], put: usize, same: bool, out_text: &mut [u8], count: u32) -> usize
+fn last(answers: &mut [u8], put: usize, same: bool, out_text: &[u8], count: u32) -> usize
     requires { ⌜ (put ≤ length (now answers)) × (1 ≤ length (now answers)) × (length (now «out_text») ≤ length (now answers)) ⌝ }
     ensures { λ r. ⌜ r ≤ length (now (answers .entry)) ⌝ }
 {
-    let text = give_bytes(answers, put, out_text, count);
-    flag(answers, text.put, same && text.same)
+    let n = areas::bytes_of(out_text, count);
+    let put = put_bytes(answers, put, &out_text[..n]);
+    let flag = [(same & areas::same_bytes(out_text, n)) as u8];
+    put_bytes(answers, put, &flag)
 }
 
 fn numbers(answers: &mut [u8], put: usize, a: Answer) -> usize
@@ -73,45 +90,21 @@ fn numbers(answers: &mut [u8], put: usize, a: Answer) -> usize
     put_report(answers, next, report)
 }
 
-fn put_report(answers: &mut [u8], put: usize, report: [u32; 14]) -> usize
+fn put_report(answers: &mut [u8], put: usize, report: [u32; REPORT]) -> usize
     requires { ⌜ (put ≤ length (now answers)) × (56 ≤ length (now answers)) ⌝ }
     ensures { λ r. ⌜ r ≤ length (now (answers .entry)) ⌝ }
 {
     put_words(answers, put, &report)
 }
 
-fn flag(answers: &mut [u8], put: usize, same: bool) -> usize
-    requires { ⌜ (put ≤ length (now answers)) × (1 ≤ length (now answers)) ⌝ }
-    ensures { λ r. ⌜ r ≤ length (now (answers .entry)) ⌝ }
-{
-    if same {
-        put_bytes(answers, put, b"\x01")
-    } else {
-        put_bytes(answers, put, b"\x00")
-    }
-}
-
-fn give_words(answers: &mut [u8], put: usize, area: &mut [u32], count: u32) -> Given
+fn give_words(answers: &mut [u8], put: usize, area: &[u32], count: u32) -> Given
     requires { ⌜ (put ≤ length (now answers)) × (4 * length (now area) ≤ length (now answers)) ⌝ }
     ensures { λ r. ⌜ r .put ≤ length (now (answers .entry)) ⌝ }
 {
     let n = areas::words_of(area, count);
-    let put = put_words(answers, put, &area[..n]);
     Given {
-        put,
-        same: areas::renew_words(area, n),
-    }
-}
-
-fn give_bytes(answers: &mut [u8], put: usize, area: &mut [u8], count: u32) -> Given
-    requires { ⌜ (put ≤ length (now answers)) × (length (now area) ≤ length (now answers)) ⌝ }
-    ensures { λ r. ⌜ r .put ≤ length (now (answers .entry)) ⌝ }
-{
-    let n = areas::bytes_of(area, count);
-    let put = put_bytes(answers, put, &area[..n]);
-    Given {
-        put,
-        same: areas::renew_bytes(area, n),
+        put: put_words(answers, put, &area[..n]),
+        same: areas::same_words(area, n),
     }
 }
 
@@ -155,17 +148,10 @@ fn low(w: u32) -> u8 {
     (w & 0xff) as u8
 }
 
-fn put_bytes(answers: &mut [u8], put: usize, bytes: &[u8]) -> usize
-    requires { ⌜ (put ≤ length (now answers)) × (length (now bytes) ≤ length (now answers)) ⌝ }
+fn put_bytes(answers: &mut [u8], put: usize, s: &[u8]) -> usize
+    requires { ⌜ (put ≤ length (now answers)) × (length (now s) ≤ length (now answers)) ⌝ }
     ensures { λ r. ⌜ r ≤ length (now (answers .entry)) ⌝ }
 {
-    let from = room(answers, put, bytes.len());
-    let mut at = from;
-    let mut i = 0;
-    while i < bytes.len() {
-        answers[at] = bytes[i];
-        at += 1;
-        i += 1;
-    }
-    at
+    let from = room(answers, put, s.len());
+    from + bytes::copy(s, &mut answers[from..])
 }

@@ -6,6 +6,7 @@ use mathlib.Core.Option.{some}
 use Prim.Native.Nat.{ℕ, zero, suc, _-_, _/_, _<_}
 use native.Mathlib.Omega.{arith}
 use lib.ListN.{length, getElem?}
+use Rattle.grammar.specs.Numbers.{rowWidth}
 use Rattle.grammar.specs.Basic.{Bytes, member, sameBytes}
 use Rattle.grammar.specs.Tree.{Expr, E}
 use Rattle.grammar.specs.Rows.{Span}
@@ -62,7 +63,7 @@ module _ (s : Bytes) where
     calm-still w j c = record { push = c .push; name = λ k. ap (λ (b : Bool). member (bytesAt s (xAt w j, yAt w j)) stackNames || b) (through-calm (length (resolveTable s t)) _) ∙ c .name k }
 
   -- THE LAW OF A CALM TABLE
-  pub calm-table : (w : List ℕ) → ((j : ℕ) → j < length w / 4 → Calm s w j) → (t : Table Span) → rowWords t ≡ w → each (λ _. restore (resolveTable s t)) (resolveTable s t) ≡ resolveTable s t
+  pub calm-table : (w : List ℕ) → ((j : ℕ) → j < length w / rowWidth → Calm s w j) → (t : Table Span) → rowWords t ≡ w → each (λ _. restore (resolveTable s t)) (resolveTable s t) ≡ resolveTable s t
   calm-table w c t e =
       let at : (i : ℕ) (r : Rule Span) → getElem? t i ≡ some r → At w (rowsBefore (ruleWords t) (suc i) - 1) (r .body) = λ i r is. subst (λ (v : List ℕ). At v (rowsBefore (ruleWords t) (suc i) - 1) (r .body)) e (body-at t i r is) in
       let h : Bodies (λ x. changes [] (resolve s x) ≡ false) t = λ i r is. changes-still [] s w (r .body) (at i r is) (λ j p q. c j (omega (arith, root (at i r is) .inside))) in

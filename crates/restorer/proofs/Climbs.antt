@@ -15,7 +15,7 @@ use Rattle.rows.specs.Rows.{At, kindAt, shapeOf}
 use Rattle.rows.specs.declared.Shape.the-variants.{One}
 use Rattle.rows.proofs.Laws.{Found, root, root-found, at-un}
 use Rattle.rows.proofs.Views.{found-head, found-shape, at-unique}
-use Rattle.writing.specs.Writes.{Fits}
+use Rattle.writing.specs.Writes.{Fits, stored}
 use Rattle.writing.specs.declared.Place.{Place}
 use Rattle.writing.proofs.Runs.{length-stored}
 use Rattle.writing.proofs.Trees.{fits-un}
@@ -145,12 +145,8 @@ module _ {w o₀ : List ℕ} {base root : ℕ} {p q : Place} {b₀ : Bool} {o : 
 pub low-kind : {w : List ℕ} {i : ℕ} (r : Expr Span) → At w i r → (j : ℕ) → j + length (ups r) ≡ i → shapeOf (kindAt w j) ≡ One → ⊥
 low-kind r a j e h = let b = low-at r a j e in low-not r (found-shape (root-found b) b (ap shapeOf (sym (root b .kind)) ∙ h))
 
-module _ {a : Restored} {q p : Place} {b : Bool} {t : Table Bytes} (s : Bytes) (r : Expr Span) {o o₁ l l₁ : List ℕ} (o₂ : List ℕ) (w : Shown q p b t (restore t (resolve s (low r))) o o₁ l l₁) (f : Becomes a q p b (λ t e. climbed t (ups r) e) o₁ o₂) where
-  pub climb-full : (g : Bool) → a ≡ Full → Fits p (guardedIf t g (restore t (resolve s r))) o l → ⊥
-  climb-full g e n = no-room p t _ o o₂ l l₁ e (f t (restore t (resolve s (low r))) o l l₁ w) (subst (λ (z : E). Fits p z o l) (restore-run t s r) (fits-guarded t g _ n))
-
-  pub climb-shown : {z : Place} {c : Bool} → a ≡ To z c → Shown z p c t (restore t (resolve s r)) o o₂ l l₁
-  climb-shown {z} {c} e = subst (λ (x : E). Shown z p c t x o o₂ l l₁) (sym (restore-run t s r)) (shown-of p t _ o o₂ l l₁ e (f t (restore t (resolve s (low r))) o l l₁ w))
+pub climb-restored : (a : Restored) {q p : Place} {b : Bool} {t : Table Bytes} (g : Bool) (s : Bytes) (r : Expr Span) {o o₁ l l₁ : List ℕ} (o₂ : List ℕ) → Shown q p b t (restore t (resolve s (low r))) o o₁ l l₁ → Becomes a q p b (λ t e. guardedIf t g (climbed t (ups r) e)) o₁ o₂ → RestoredAnswer a p t (guardedIf t g (restore t (resolve s r))) o o₂ l l₁
+climb-restored a {p = p} {t = t} g s r {o} {l = l} {l₁ = l₁} o₂ w f = subst (λ (x : E). RestoredAnswer a p t (guardedIf t g x) o o₂ l l₁) (sym (restore-run t s r)) (f t (restore t (resolve s (low r))) o l l₁ w)
 
 -- what is not guarded
 pub unguarded : (a : Restored) (p : Place) (t : Table Bytes) (e : E) (o o′ l l′ : List ℕ) → RestoredAnswer a p t (guardedIf t false e) o o′ l l′ → RestoredAnswer a p t e o o′ l l′

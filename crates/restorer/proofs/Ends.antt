@@ -6,14 +6,15 @@ use Prim.Native.Nat.{ℕ, suc, _+_, _*_, _/_, _^_, _≤_, _<_}
 use native.Mathlib.Decide.{decLt}
 use native.Mathlib.Omega.{arith}
 use lib.ListN.{length, getElem?}
+use Rattle.grammar.specs.Numbers.{ruleWidth, rowWidth, markWidth}
 use Rattle.grammar.specs.Basic.{Bytes}
 use Rattle.grammar.specs.Rows.{Span}
 use Rattle.grammar.specs.Table.{Rule, Table, rowCount, ruleWords, resolveTable}
 use Rattle.rows.proofs.Laws.{size-pos}
-use Rattle.names.specs.Names.{rowsBefore, marked, withEnds}
+use Rattle.names.specs.Names.{rowsBefore, marked, withEnds, waysWord, endWord}
 use Rattle.names.proofs.Finding.{rule-count, rows-before-all, length-rows}
 use Rattle.names.proofs.Marks.{length-marked, marked-other, marked-at, ended}
-use Rattle.names.proofs.Index.{hashed-ends}
+use Rattle.names.proofs.Index.{index-ends}
 use Rattle.restorer.specs.Search.{stateOf, Right, RuleSettled}
 use Rattle.restorer.specs.Lends.{Lent, Marked, Given, Steady, Settles}
 use Rattle.restorer.specs.Stacks.{Stacked, Searching}
@@ -24,20 +25,20 @@ use Rattle.restorer.proofs.Marks.{unseen-most, stack-top, count, count-
 
 module _ (f : ℕ → ℕ) (n : ℕ) (m : List ℕ) where
   pub marked-steady : Steady m (marked f 1 n m)
-  marked-steady = record { hash = λ i. marked-other f 1 n m (i * 4) (λ k l e. omega arith); chain = λ i. marked-other f 1 n m (i * 4 + 2) (λ k l e. omega arith); end = λ i. marked-other f 1 n m (i * 4 + 3) (λ k l e. omega arith) }
+  marked-steady = record { slots = λ i. marked-other f 1 n m (i * markWidth) (λ k l e. omega arith); ways = λ i. marked-other f 1 n m (i * markWidth + waysWord) (λ k l e. omega arith); end = λ i. marked-other f 1 n m (i * markWidth + endWord) (λ k l e. omega arith) }
 
-  pub marked-state : (i : ℕ) → n * 4 ≤ length m → i < n → stateOf (marked f 1 n m) i ≡ f i
+  pub marked-state : (i : ℕ) → n * markWidth ≤ length m → i < n → stateOf (marked f 1 n m) i ≡ f i
   marked-state i l h = marked-at f 1 n m i (omega arith) l h
 
 -- ---- the table
 
 -- how many rows there are
-pub rows-fit : {rules rows : List ℕ} {text : Bytes} {m : List ℕ} → Marked rules rows text m → length rows < 2 ^ 32 → rowsBefore rules (length rules / 4) < 2 ^ 32
+pub rows-fit : {rules rows : List ℕ} {text : Bytes} {m : List ℕ} → Marked rules rows text m → length rows < 2 ^ 32 → rowsBefore rules (length rules / ruleWidth) < 2 ^ 32
 rows-fit {rules} {rows} g h =
     let t = g .table in
     let e : rowsBefore (ruleWords t) (length t) ≡ rowCount t = rows-before-all t in
-    let k : length rows ≡ rowCount t * 4 = ap length (sym (g .lent .trees)) ∙ length-rows t in
-    let f : rowsBefore rules (length rules / 4) ≡ rowsBefore (ruleWords t) (length t) = rw (← (g .lent .heads), rule-count t) in
+    let k : length rows ≡ rowCount t * rowWidth = ap length (sym (g .lent .trees)) ∙ length-rows t in
+    let f : rowsBefore rules (length rules / ruleWidth) ≡ rowsBefore (ruleWords t) (length t) = rw (← (g .lent .heads), rule-count t) in
     omega (arith, e, k, f)
 
 -- each rule has one
@@ -45,25 +46,25 @@ rules-most : (t : Table Span) → length t ≤ rowCount t
 rules-most [] = omega arith
 rules-most (r ∷ t) = omega (arith, size-pos (r .body), rules-most t)
 
-rules-few : {rules rows : List ℕ} {t : Table Span} → Lent t rules rows → length rows < 2 ^ 32 → length rules / 4 < 2 ^ 30
+rules-few : {rules rows : List ℕ} {t : Table Span} → Lent t rules rows → length rows < 2 ^ 32 → length rules / ruleWidth < 2 ^ 30
 rules-few {t = t} l h = omega (arith, count l, rules-most t, ap length (sym (l .trees)) ∙ length-rows t)
 
 -- rules below i are settled, and no others are open
 pub record Settling (rules rows : List ℕ) (text : Bytes) (m m′ st st′ : List ℕ) (i : ℕ) : Type 0 where
   pub searching : Searching rules rows text m′ st′ 0
-  pub most : i ≤ length rules / 4
+  pub most : i ≤ length rules / ruleWidth
   pub long : length m′ ≡ length m
   pub longs : length st′ ≡ length st
   pub so : (t : Table Span) → Lent t rules rows → Right (resolveTable text t) m′ × ((j : ℕ) → j < i → 2 ≤ stateOf m′ j)
 
-pub settling-start : {rules rows : List ℕ} {text : Bytes} {m m₁ m₂ st : List ℕ} {n : ℕ} → Marked rules rows text m → length rows < 2 ^ 32 → length rules / 4 ≤ length st → m₁ ≡ withEnds rules m → n ≡ length rules / 4 → m₂ ≡ marked (λ _. 0) 1 n m₁ → Settling rules rows text m₂ m₂ st st 0
+pub settling-start : {rules rows : List ℕ} {text : Bytes} {m m₁ m₂ st : List ℕ} {n : ℕ} → Marked rules rows text m → length rows < 2 ^ 32 → length rules / ruleWidth ≤ length st → m₁ ≡ withEnds rules m → n ≡ length rules / ruleWidth → m₂ ≡ marked (λ _. 0) 1 n m₁ → Settling rules rows text m₂ m₂ st st 0
 settling-start {rules} {rows} {text} {m} {m₁} {m₂} {st} {n} g few room e c f =
     let z : length m₂ ≡ length m₁ = ap length f ∙ length-marked (λ _. 0) 1 n m₁ in
-    let d : Given rules rows text m₁ = record { marked = record { table = g .table; lent = g .lent; inside = g .inside; hashed = rw e (hashed-ends rules text m (g .hashed)) }; ended = rw e (ended rules m (g .hashed .long)) } in
+    let d : Given rules rows text m₁ = record { marked = record { table = g .table; lent = g .lent; inside = g .inside; index = rw e (index-ends rules text m (g .index)) }; ended = rw e (ended rules m (g .index .long)) } in
     record {
       searching = record {
         given = given-steady d (rw f (marked-steady (λ _. 0) n m₁)) z;
-        stacked = record { below = λ p l. absurd (omega arith); place = λ p l. absurd (omega arith); back = λ i p l q. absurd (omega (arith, none i l)); room = omega (arith, unseen-most (length rules / 4) m₂) };
+        stacked = record { below = λ p l. absurd (omega arith); place = λ p l. absurd (omega arith); back = λ i p l q. absurd (omega (arith, none i l)); room = omega (arith, unseen-most (length rules / ruleWidth) m₂) };
         long = room;
         few = rules-few (g .lent) few;
       };
@@ -73,10 +74,10 @@ settling-start {rules} {rows} {text} {m} {m₁} {m₂} {st} {n} g few room e c f
       so = λ t l. (nothing t l, λ j h. absurd (omega arith));
     }
   where
-    none : (i : ℕ) → i < length rules / 4 → stateOf m₂ i ≡ 0
+    none : (i : ℕ) → i < length rules / ruleWidth → stateOf m₂ i ≡ 0
     none i b =
-        let k : length m₁ ≡ length m = ap length e ∙ length-marked (λ i. rowsBefore rules (suc i)) 3 (length rules / 4) m in
-        rw f (marked-state (λ _. 0) n m₁ i (omega (arith, k, g .hashed .long)) (omega arith))
+        let k : length m₁ ≡ length m = ap length e ∙ length-marked (λ i. rowsBefore rules (suc i)) 3 (length rules / ruleWidth) m in
+        rw f (marked-state (λ _. 0) n m₁ i (omega (arith, k, g .index .long)) (omega arith))
 
     nothing : (t : Table Span) → Lent t rules rows → Right (resolveTable text t) m₂
     nothing t l =
@@ -86,10 +87,10 @@ settling-start {rules} {rows} {text} {m} {m₁} {m₂} {st} {n} g few room e c f
           yes = λ i r is q. absurd (omega (arith, none i (at i r is)));
         }
       where
-        at : (i : ℕ) (r : Rule Bytes) → getElem? (resolveTable text t) i ≡ some r → i < length rules / 4
+        at : (i : ℕ) (r : Rule Bytes) → getElem? (resolveTable text t) i ≡ some r → i < length rules / ruleWidth
         at i r is = omega (arith, count-resolved l text, inside-rule (resolveTable text t) i r is)
 
-pub settling-next : {rules rows : List ℕ} {text : Bytes} {m m₁ m₂ st st₁ st₂ : List ℕ} {i : ℕ} → Settling rules rows text m m₁ st st₁ i → i < length rules / 4 → Steady m₁ m₂ → Stacked (length rules / 4) m₂ st₂ 0 → length m₂ ≡ length m₁ → length st₂ ≡ length st₁
+pub settling-next : {rules rows : List ℕ} {text : Bytes} {m m₁ m₂ st st₁ st₂ : List ℕ} {i : ℕ} → Settling rules rows text m m₁ st st₁ i → i < length rules / ruleWidth → Steady m₁ m₂ → Stacked (length rules / ruleWidth) m₂ st₂ 0 → length m₂ ≡ length m₁ → length st₂ ≡ length st₁
     → ((t : Table Span) → Lent t rules rows → Right (resolveTable text t) m₁ → RuleSettled (resolveTable text t) m₁ m₂ i) → Settling rules rows text m m₂ st st₂ (i + 1)
 settling-next {rules} {rows} {text} {m} {m₁} {m₂} {st} {st₁} {st₂} {i} inv lt s k z y f =
     record {
@@ -104,7 +105,7 @@ settling-next {rules} {rows} {text} {m} {m₁} {m₂} {st} {st₁} {st₂} {i} i
     go t l j h a (yes b) = let q = inv .so t l .1 j b in omega (arith, a .kept .same j (omega (arith, count-resolved l text)) (omega arith), q)
     go t l j h a (no b) = let e : j ≡ i = omega arith in rw e (a .here)
 
-pub settling-end : {rules rows : List ℕ} {text : Bytes} {m m₁ st st₁ : List ℕ} {i : ℕ} → Settling rules rows text m m₁ st st₁ i → length rules / 4 ≤ i → Settles rules rows text m₁
+pub settling-end : {rules rows : List ℕ} {text : Bytes} {m m₁ st st₁ : List ℕ} {i : ℕ} → Settling rules rows text m m₁ st st₁ i → length rules / ruleWidth ≤ i → Settles rules rows text m₁
 settling-end {text = text} inv le =
     record {
       settled = λ t l. record {

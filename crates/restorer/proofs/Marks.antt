@@ -8,6 +8,7 @@ use lib.ListN.{length, getD, set}
 use lib.Seq.{getD-set-same, getD-set-other}
 use native.Mathlib.Decide.{ℕ-discrete, decLt}
 use lib.Dec.{eqb}
+use Rattle.grammar.specs.Numbers.{ruleWidth, rowsWord, rowWidth, markWidth}
 use Rattle.grammar.specs.Basic.{Bytes}
 use Rattle.grammar.specs.Tree.{size}
 use Rattle.grammar.specs.Rows.{Span}
@@ -15,10 +16,10 @@ use Rattle.grammar.specs.Table.{Table, resolveTable}
 use Rattle.grammar.proofs.Logic.{eqb-eq}
 use Rattle.rows.specs.Rows.{At}
 use Rattle.rows.proofs.Laws.{root, size-pos}
-use Rattle.names.specs.Names.{Ended}
-use Rattle.names.proofs.Index.{hashed-kept}
+use Rattle.names.specs.Names.{Ended, memoryWord, waysWord, endWord}
+use Rattle.names.proofs.Index.{index-kept}
 use Rattle.names.proofs.Finding.{There, there, rule-count, rule-words, body-at}
-use Rattle.restorer.specs.Search.{stateOf}
+use Rattle.restorer.specs.Search.{OPEN, stateOf}
 use Rattle.restorer.specs.Lends.{Lent, Given, Steady, TreeRows}
 use Rattle.restorer.specs.Stacks.{unseen, Stacked, Ran, Closes}
 use Rattle.restorer.proofs.Memories.{length-resolved}
@@ -29,11 +30,11 @@ pub record Sets (m m′ : List ℕ) (i v : ℕ) : Type 0 where
   pub here : stateOf m′ i ≡ v
   pub others : (j : ℕ) → (j ≡ i → ⊥) → stateOf m′ j ≡ stateOf m j
 
-pub sets-state : (m : List ℕ) (i v : ℕ) → i * 4 + 1 < length m → Sets m (set m (i * 4 + 1) v) i v
+pub sets-state : (m : List ℕ) (i v : ℕ) → i * markWidth + memoryWord < length m → Sets m (set m (i * markWidth + memoryWord) v) i v
 sets-state m i v h =
     record {
-      here = getD-set-same m (i * 4 + 1) v 0 h;
-      others = λ j n. getD-set-other m (i * 4 + 1) (j * 4 + 1) v 0 (λ e. n (omega arith));
+      here = getD-set-same m (i * markWidth + memoryWord) v 0 h;
+      others = λ j n. getD-set-other m (i * markWidth + memoryWord) (j * markWidth + memoryWord) v 0 (λ e. n (omega arith));
     }
 
 -- ---- how many rules were not seen
@@ -71,14 +72,14 @@ unseen-most (suc n) m = go (eqb (stateOf m n) 0) (unseen-most n m)
 
 -- ---- the stack of rules
 
-pub stack-top : {n : ℕ} {m st : List ℕ} {top i : ℕ} → Stacked n m st top → i < n → stateOf m i < 4 + top
-stack-top {n} {m} {st} {top} {i} s h = go (decLt (stateOf m i) 4)
+pub stack-top : {n : ℕ} {m st : List ℕ} {top i : ℕ} → Stacked n m st top → i < n → stateOf m i < OPEN + top
+stack-top {n} {m} {st} {top} {i} s h = go (decLt (stateOf m i) OPEN)
   where
-    go : Dec (stateOf m i < 4) → stateOf m i < 4 + top
+    go : Dec (stateOf m i < OPEN) → stateOf m i < OPEN + top
     go (yes k) = omega arith
-    go (no k) = let e : stateOf m i ≡ 4 + (stateOf m i - 4) = omega arith in omega (arith, s .back i (stateOf m i - 4) h e .0)
+    go (no k) = let e : stateOf m i ≡ OPEN + (stateOf m i - OPEN) = omega arith in omega (arith, s .back i (stateOf m i - OPEN) h e .0)
 
-module _ {n : ℕ} {m m′ st : List ℕ} {top i : ℕ} (s : Stacked n m st top) (h : i < n) (z : stateOf m i ≡ 0) (w : Sets m m′ i (4 + top)) where
+module _ {n : ℕ} {m m′ st : List ℕ} {top i : ℕ} (s : Stacked n m st top) (h : i < n) (z : stateOf m i ≡ 0) (w : Sets m m′ i (OPEN + top)) where
   pub pushed-less : unseen n m′ + 1 ≡ unseen n m
   pushed-less = omega (arith, unseen-sets w (omega arith) n h, ap isZero z)
 
@@ -95,13 +96,13 @@ module _ {n : ℕ} {m m′ st : List ℕ} {top i : ℕ} (s : Stacked n m st top)
       below p l (yes e) = omega (arith, ap (λ (q : ℕ). getD (set st top i) q 0) e, here)
       below p l (no k) = omega (arith, under p k, s .below p (omega arith))
 
-      place : (p : ℕ) → p < top + 1 → Dec (p ≡ top) → stateOf m′ (getD (set st top i) p 0) ≡ 4 + p
+      place : (p : ℕ) → p < top + 1 → Dec (p ≡ top) → stateOf m′ (getD (set st top i) p 0) ≡ OPEN + p
       place p l (yes e) = omega (arith, ap (λ (q : ℕ). stateOf m′ (getD (set st top i) q 0)) e, ap (stateOf m′) here, w .here)
       place p l (no k) =
           let e = s .place p (omega arith) in
           ap (stateOf m′) (under p k) ∙ w .others (getD st p 0) (λ q. absurd (omega (arith, ap (stateOf m) q, e))) ∙ e
 
-      back : (j p : ℕ) → j < n → stateOf m′ j ≡ 4 + p → Dec (j ≡ i) → (p < top + 1) × (getD (set st top i) p 0 ≡ j)
+      back : (j p : ℕ) → j < n → stateOf m′ j ≡ OPEN + p → Dec (j ≡ i) → (p < top + 1) × (getD (set st top i) p 0 ≡ j)
       back j p l e (yes k) =
           let q : p ≡ top = omega (arith, ap (stateOf m′) k, w .here) in
           (omega arith, ap (λ (v : ℕ). getD (set st top i) v 0) q ∙ here ∙ sym k)
@@ -114,7 +115,7 @@ pub closes-none : {n : ℕ} {m st : List ℕ} {top to : ℕ} → Stacked n m st 
 closes-none s = record { stacked = s; turned = λ i l h. absurd (omega (arith, stack-top s l)); kept = λ i l h. refl; fewer = omega arith }
 
 -- one more is closed
-pub closes-next : {n : ℕ} {m m₁ m₂ st : List ℕ} {p to : ℕ} → Closes n m m₁ st (p + 1) to → Sets m₁ m₂ (getD st p 0) to → 1 ≤ to → to < 4 → Closes n m m₂ st p to
+pub closes-next : {n : ℕ} {m m₁ m₂ st : List ℕ} {p to : ℕ} → Closes n m m₁ st (p + 1) to → Sets m₁ m₂ (getD st p 0) to → 1 ≤ to → to < OPEN → Closes n m m₂ st p to
 closes-next {n} {m} {m₁} {m₂} {st} {p} {to} c w lo hi =
     record {
       stacked = record {
@@ -134,13 +135,13 @@ closes-next {n} {m} {m₁} {m₂} {st} {p} {to} c w lo hi =
     k : ℕ
     k = getD st p 0
 
-    at : stateOf m₁ (getD st p 0) ≡ 4 + p
+    at : stateOf m₁ (getD st p 0) ≡ OPEN + p
     at = s .place p (omega arith)
 
     less : unseen n m₂ ≤ unseen n m₁
     less = omega (arith, unseen-sets w lo n (s .below p (omega arith)))
 
-    back : (j q : ℕ) → j < n → stateOf m₂ j ≡ 4 + q → Dec (j ≡ getD st p 0) → (q < p) × (getD st q 0 ≡ j)
+    back : (j q : ℕ) → j < n → stateOf m₂ j ≡ OPEN + q → Dec (j ≡ getD st p 0) → (q < p) × (getD st q 0 ≡ j)
     back j q l e (yes r) = absurd (omega (arith, ap (stateOf m₂) r, w .here))
     back j q l e (no r) =
         let b = s .back j q l (sym (w .others j r) ∙ e) in
@@ -150,11 +151,11 @@ closes-next {n} {m} {m₁} {m₂} {st} {p} {to} c w lo hi =
         under (yes v) b = absurd (r (sym (b .1) ∙ ap (λ (u : ℕ). getD st u 0) v))
         under (no v) b = omega (arith, b .0)
 
-    turned : (j : ℕ) → j < n → 4 + p ≤ stateOf m j → Dec (j ≡ getD st p 0) → stateOf m₂ j ≡ to
+    turned : (j : ℕ) → j < n → OPEN + p ≤ stateOf m j → Dec (j ≡ getD st p 0) → stateOf m₂ j ≡ to
     turned j l e (yes r) = ap (stateOf m₂) r ∙ w .here
-    turned j l e (no r) = w .others j r ∙ go (ℕ-discrete (stateOf m j) (4 + p))
+    turned j l e (no r) = w .others j r ∙ go (ℕ-discrete (stateOf m j) (OPEN + p))
       where
-        go : Dec (stateOf m j ≡ 4 + p) → stateOf m₁ j ≡ to
+        go : Dec (stateOf m j ≡ OPEN + p) → stateOf m₁ j ≡ to
         go (yes v) = absurd (r (sym (s .back j p l (c .kept j l (omega arith) ∙ v) .1)))
         go (no v) = c .turned j l (omega arith)
 
@@ -166,22 +167,22 @@ pub record Closing (m m′ st : List ℕ) (from top to p : ℕ) : Type 0 where
   pub steady : Steady m m′
   pub closes : (n : ℕ) → Stacked n m st top → Closes n m m′ st p to
 
-pub closing-next : {m m₁ st : List ℕ} {top p to i : ℕ} → 1 ≤ p → i ≡ getD st (p - 1) 0 → i * 4 + 1 < length m₁ → 1 < to → to < 4 → ((n : ℕ) → Stacked n m st top → Closes n m m₁ st p to) → (n : ℕ) → Stacked n m st top → Closes n m (set m₁ (i * 4 + 1) to) st (p - 1) to
+pub closing-next : {m m₁ st : List ℕ} {top p to i : ℕ} → 1 ≤ p → i ≡ getD st (p - 1) 0 → i * markWidth + memoryWord < length m₁ → 1 < to → to < OPEN → ((n : ℕ) → Stacked n m st top → Closes n m m₁ st p to) → (n : ℕ) → Stacked n m st top → Closes n m (set m₁ (i * markWidth + memoryWord) to) st (p - 1) to
 closing-next {m} {m₁} {st} {top} {p} {to} {i} h e l lo hi f n s =
     let k : p ≡ p - 1 + 1 = omega arith in
-    closes-next (subst (λ (q : ℕ). Closes n m m₁ st q to) k (f n s)) (subst (λ (j : ℕ). Sets m₁ (set m₁ (i * 4 + 1) to) j to) e (sets-state m₁ i to l)) (omega arith) hi
+    closes-next (subst (λ (q : ℕ). Closes n m m₁ st q to) k (f n s)) (subst (λ (j : ℕ). Sets m₁ (set m₁ (i * markWidth + memoryWord) to) j to) e (sets-state m₁ i to l)) (omega arith) hi
 
 -- ---- nothing but memories is changed
 
 pub steady-none : (m : List ℕ) → Steady m m
-steady-none m = record { hash = λ i. refl; chain = λ i. refl; end = λ i. refl }
+steady-none m = record { slots = λ i. refl; ways = λ i. refl; end = λ i. refl }
 
 pub steady-more : {m m₁ m₂ : List ℕ} → Steady m m₁ → Steady m₁ m₂ → Steady m m₂
-steady-more a b = record { hash = λ i. b .hash i ∙ a .hash i; chain = λ i. b .chain i ∙ a .chain i; end = λ i. b .end i ∙ a .end i }
+steady-more a b = record { slots = λ i. b .slots i ∙ a .slots i; ways = λ i. b .ways i ∙ a .ways i; end = λ i. b .end i ∙ a .end i }
 
-pub steady-set : (m : List ℕ) (i v : ℕ) → Steady m (set m (i * 4 + 1) v)
+pub steady-set : (m : List ℕ) (i v : ℕ) → Steady m (set m (i * markWidth + memoryWord) v)
 steady-set m i v =
-    record { hash = λ j. getD-set-other m (i * 4 + 1) (j * 4) v 0 (λ e. omega arith); chain = λ j. getD-set-other m (i * 4 + 1) (j * 4 + 2) v 0 (λ e. omega arith); end = λ j. getD-set-other m (i * 4 + 1) (j * 4 + 3) v 0 (λ e. omega arith) }
+    record { slots = λ j. getD-set-other m (i * markWidth + memoryWord) (j * markWidth) v 0 (λ e. omega arith); ways = λ j. getD-set-other m (i * markWidth + memoryWord) (j * markWidth + waysWord) v 0 (λ e. omega arith); end = λ j. getD-set-other m (i * markWidth + memoryWord) (j * markWidth + endWord) v 0 (λ e. omega arith) }
 
 pub ran-none : {n : ℕ} {m st : List ℕ} {top : ℕ} → Stacked n m st top → Ran n m m st top top
 ran-none {m = m} s = record { steady = steady-none m; fewer = omega arith; grown = omega arith; stacked = s }
@@ -196,7 +197,7 @@ given-steady g s l =
         table = g .marked .table;
         lent = g .marked .lent;
         inside = g .marked .inside;
-        hashed = hashed-kept (g .marked .hashed) l (s .hash) (s .chain);
+        index = index-kept (g .marked .index) l (s .slots) (s .ways);
       };
       ended = record { end = λ i h. s .end i ∙ g .ended .end i h };
     }
@@ -204,27 +205,27 @@ given-steady g s l =
 -- ---- rule k of what is lent
 
 module _ {rules rows : List ℕ} {t : Table Span} (lent : Lent t rules rows) where
-  pub count : length rules / 4 ≡ length t
-  count = ap (λ (w : List ℕ). length w / 4) (sym (lent .heads)) ∙ rule-count t
+  pub count : length rules / ruleWidth ≡ length t
+  count = ap (λ (w : List ℕ). length w / rowWidth) (sym (lent .heads)) ∙ rule-count t
 
-  pub count-resolved : (text : Bytes) → length rules / 4 ≡ length (resolveTable text t)
+  pub count-resolved : (text : Bytes) → length rules / ruleWidth ≡ length (resolveTable text t)
   count-resolved text = count ∙ sym (length-resolved text t)
 
-  pub below-resolved : (text : Bytes) (k : ℕ) → k < length rules / 4 → k < length (resolveTable text t)
+  pub below-resolved : (text : Bytes) (k : ℕ) → k < length rules / ruleWidth → k < length (resolveTable text t)
   below-resolved text k h = omega (arith, count-resolved text)
 
-  pub rule-there : (k : ℕ) → k < length rules / 4 → There t k
+  pub rule-there : (k : ℕ) → k < length rules / ruleWidth → There t k
   rule-there k h = there t k (omega (arith, count))
 
-  pub rule-rows : (k : ℕ) (r : There t k) → getD rules (k * 4 + 3) 0 ≡ size (r .rule .body)
-  rule-rows k r = ap (λ (v : List ℕ). getD v (k * 4 + 3) 0) (sym (lent .heads)) ∙ rule-words t k (r .rule) (r .is) .rows′
+  pub rule-rows : (k : ℕ) (r : There t k) → getD rules (k * ruleWidth + rowsWord) 0 ≡ size (r .rule .body)
+  rule-rows k r = ap (λ (v : List ℕ). getD v (k * rowWidth + 3) 0) (sym (lent .heads)) ∙ rule-words t k (r .rule) (r .is) .rows′
 
-  module _ (m : List ℕ) (k : ℕ) (r : There t k) (h : k < length rules / 4) (d : Ended rules m) where
-    pub rule-stands : At rows (getD m (k * 4 + 3) 0 - 1) (r .rule .body)
+  module _ (m : List ℕ) (k : ℕ) (r : There t k) (h : k < length rules / ruleWidth) (d : Ended rules m) where
+    pub rule-stands : At rows (getD m (k * markWidth + endWord) 0 - 1) (r .rule .body)
     rule-stands = rw (← (lent .trees), d .end k h, ← (lent .heads)) (body-at t k (r .rule) (r .is))
 
     -- where the rule's rows end: n is their number
-    module _ (end n : ℕ) (e : end ≡ getD m (k * 4 + 3) 0) (q : n ≡ getD rules (k * 4 + 3) 0) where
+    module _ (end n : ℕ) (e : end ≡ getD m (k * markWidth + endWord) 0) (q : n ≡ getD rules (k * ruleWidth + rowsWord) 0) where
       pub rule-at : At rows (end - 1) (r .rule .body)
       rule-at = rw e rule-stands
 

@@ -17,7 +17,7 @@ use Rattle.grammar.specs.Text.{bytesAt}
 use Rattle.grammar.specs.Table.{Rule, Table, find, resolveRule, resolveTable}
 use Rattle.grammar.specs.Stack.{stackNames, changesIn}
 use Rattle.grammar.proofs.Logic.{none-some, some-eq, or-right, eqb-eq, sameBytes-eq, eq-sameBytes}
-use Rattle.restorer.specs.Search.{stateOf, memoryFrom, memoryOf, isQuiet, loud, Quiet, Right, Reach, Kept, Searches, Closed, nowhere}
+use Rattle.restorer.specs.Search.{OPEN, stateOf, memoryFrom, memoryOf, isQuiet, loud, Quiet, Right, Reach, Kept, Searches, Closed, nowhere}
 
 -- ---- a test that fails, in parts
 
@@ -38,17 +38,17 @@ and-no false b d f h = refl
 
 -- ---- quiet states
 
-pub quiet-state : (low s : ℕ) → isQuiet low s ≡ true → (s ≡ 2) ⊎ (4 + low ≤ s)
-quiet-state low s h = go (eqb s 2) (leb (4 + low) s) refl refl h
+pub quiet-state : (low s : ℕ) → isQuiet low s ≡ true → (s ≡ 2) ⊎ (OPEN + low ≤ s)
+quiet-state low s h = go (eqb s 2) (leb (OPEN + low) s) refl refl h
   where
-    go : (a b : Bool) → eqb s 2 ≡ a → leb (4 + low) s ≡ b → (a || b) ≡ true → (s ≡ 2) ⊎ (4 + low ≤ s)
+    go : (a b : Bool) → eqb s 2 ≡ a → leb (OPEN + low) s ≡ b → (a || b) ≡ true → (s ≡ 2) ⊎ (OPEN + low ≤ s)
     go true b p q k = inl (eqb-eq s 2 p)
-    go false true p q k = inr (leb-true (4 + low) s q)
+    go false true p q k = inr (leb-true (OPEN + low) s q)
     go false false p q k = absurd (false≢true k)
 
-pub state-quiet : (low s : ℕ) → (s ≡ 2) ⊎ (4 + low ≤ s) → isQuiet low s ≡ true
+pub state-quiet : (low s : ℕ) → (s ≡ 2) ⊎ (OPEN + low ≤ s) → isQuiet low s ≡ true
 state-quiet low s (inl e) = ap (isQuiet low) e
-state-quiet low s (inr h) = or-right (eqb s 2) (leb (4 + low) s) (le-leb (4 + low) s h)
+state-quiet low s (inr h) = or-right (eqb s 2) (leb (OPEN + low) s) (le-leb (OPEN + low) s h)
 
 pub not-loud : (low s : ℕ) → not (isQuiet low s) ≡ false → isQuiet low s ≡ true
 not-loud low s h = go (isQuiet low s) h
@@ -58,7 +58,7 @@ not-loud low s h = go (isQuiet low s) h
     go false k = absurd (false≢true (sym k))
 
 -- the same memory, with a lower position
-quiet-lower : {low low′ s s′ : ℕ} → s′ ≡ s → low′ ≤ low → (s ≡ 2) ⊎ (4 + low ≤ s) → isQuiet low′ s′ ≡ true
+quiet-lower : {low low′ s s′ : ℕ} → s′ ≡ s → low′ ≤ low → (s ≡ 2) ⊎ (OPEN + low ≤ s) → isQuiet low′ s′ ≡ true
 quiet-lower {low} {low′} {s} {s′} e l (inl h) = state-quiet low′ s′ (inl (e ∙ h))
 quiet-lower {low} {low′} {s} {s′} e l (inr h) = state-quiet low′ s′ (inr (omega arith))
 
@@ -177,10 +177,10 @@ module _ {t : Table Bytes} {m m′ : List ℕ} (kept : Kept t m m′) {low low�
   quiet-kept : (x : Bytes) → loud t m low x ≡ false → loud t m′ low′ x ≡ false
   quiet-kept x h = go (known t x)
     where
-      was : (memoryOf t m x ≡ 2) ⊎ (4 + low ≤ memoryOf t m x)
+      was : (memoryOf t m x ≡ 2) ⊎ (OPEN + low ≤ memoryOf t m x)
       was = quiet-state low (memoryOf t m x) (not-loud low (memoryOf t m x) h)
 
-      seen : (memoryOf t m x ≡ 2) ⊎ (4 + low ≤ memoryOf t m x) → 1 ≤ memoryOf t m x
+      seen : (memoryOf t m x ≡ 2) ⊎ (OPEN + low ≤ memoryOf t m x) → 1 ≤ memoryOf t m x
       seen (inl q) = omega arith
       seen (inr q) = omega arith
 
@@ -229,5 +229,5 @@ module _ {t : Table Bytes} {m₁ m₂ : List ℕ} (kept : Kept t m₁ m₂) wher
           stays-quiet kept le₁ (r .body) (a i r h e (omega (arith, z)))
 
   -- the rule at a position stays there
-  pub leads-then : (low : ℕ) {R : Type 0} → (low < nowhere → Reach t m₁ (λ s. s ≡ 4 + low) → R) → low < nowhere → Reach t m₂ (λ s. s ≡ 4 + low) → R
+  pub leads-then : (low : ℕ) {R : Type 0} → (low < nowhere → Reach t m₁ (λ s. s ≡ OPEN + low) → R) → low < nowhere → Reach t m₂ (λ s. s ≡ OPEN + low) → R
   leads-then low a l f = a l (λ i e r h. f i (kept .same i (inside-rule t i r h) (omega arith) ∙ e) r h)

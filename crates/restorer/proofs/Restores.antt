@@ -1,34 +1,45 @@
 -- A restored tree is written by its children and then its root's row. Assumes nothing.
 use mathlib.Core.Path.{_≡_, refl, sym, ap, ap₂, _∙_, subst}
 use mathlib.Core.Bool.{Bool, true, false, _||_}
-use mathlib.Core.List.{List}
+use mathlib.Core.List.{List, [], _∷_}
 use Prim.Native.Nat.{ℕ, _+_, _-_, _/_}
 use native.Mathlib.Omega.{arith}
 use lib.ListN.{length}
+use Rattle.grammar.specs.Numbers.{ruleWidth}
 use Rattle.grammar.specs.Basic.{Bytes, member}
-use Rattle.grammar.specs.Tree.{Head, Lit, Ident, Un, RestoreOnErr, Bin, Expr, E, lit, un, bin, litKind, unHead, binKind}
+use Rattle.grammar.specs.Tree.{Head, Lit, Ident, Un, RestoreOnErr, Bin, Expr, E, lit, fixed, skip, un, bin, litKind, unHead, binKind}
 use Rattle.grammar.specs.Rows.{Span}
 use Rattle.grammar.specs.Text.{bytesAt, resolve}
 use Rattle.grammar.specs.Table.{Table}
 use Rattle.grammar.specs.Stack.{stackNames, changes}
 use Rattle.grammar.specs.Steps.{restore}
 use Rattle.rows.specs.Rows.{At, sizeAt, shapeOf}
-use Rattle.rows.specs.declared.Shape.the-variants.{Lit as Lits, Num, Two, Skips}
-use Rattle.rows.proofs.Laws.{Found, root, found-size}
+use types.Run.{OneOf}
+use denote.Enum.Declared.{tagOf}
+use mathlib.Core.Logic.{⊎-elim}
+use Rattle.rows.proofs.Shape as shape
+use Rattle.rows.specs.declared.Shape.{Shape}
+use Rattle.rows.specs.declared.Shape.the-variants.{Lit as Lits, One, Two}
+use Rattle.rows.proofs.Laws.{Found, root}
 use Rattle.rows.proofs.Cells.{lit-same}
-use Rattle.rows.proofs.Views.{TwoView, as-lit, as-num, as-two, as-skip, left-at}
-use Rattle.writing.specs.Writes.{Areas, RowPut, RowAnswer, LitAnswer, Fits, Written, Answer}
+use Rattle.rows.proofs.Views.{TwoView, shapeIn, shape-in, as-lit, as-two, left-at}
+use Rattle.writing.specs.Writes.{Areas, RowAnswer, LitAnswer, Fits, Written, Answer}
 use Rattle.writing.specs.declared.Place.{Place}
 use Rattle.writing.specs.declared.Wrote.{Wrote}
 use Rattle.writing.specs.declared.Wrote.the-variants.{Done, Full as NoRoom}
-use Rattle.writing.proofs.Puts.{row-done}
-use Rattle.writing.proofs.Trees.{lit-tree, un-tree, bin-tree, done-written, full-not, fits-left, fits-right, written-room}
+use Rattle.writing.proofs.Trees.{lit-tree, un-tree, bin-tree, fits-left, fits-right, written-room}
 use Rattle.names.specs.Names.{Finds}
 use Rattle.names.specs.declared.Found.{Found as Found′}
-use Rattle.restorer.specs.Restores.{isGuard, guardedIf, showsThrough, saysFound, Sure, RowIs, Shown, RestoredAnswer, Over, NodePut, NodeAnswer}
+use Rattle.restorer.specs.Restores.{isGuard, guardedIf, showsThrough, saysFound, Sure, RowIs, Shown, toldBy, wroteBy, RestoredAnswer, Over, NodeAnswer}
 use Rattle.restorer.specs.declared.Restored.{Restored}
 use Rattle.restorer.specs.declared.Restored.the-variants.{To, Full}
-use Rattle.restorer.proofs.Showing.{changes-un, changes-bin, changes-lit, changes-fixed, changes-skip, restore-lit, restore-fixed, restore-skip, restore-bin, guarded-yes, guarded-no, guarded-not}
+use Rattle.restorer.proofs.Showing.{changes-un, changes-bin, changes-fixed, changes-skip, restore-lit, restore-fixed, restore-skip, restore-bin, guarded-yes, guarded-no, guarded-not}
+
+-- what the else of `if let Shape::Lit` knows: the shape is one of the others
+pub else-lit : (s : Shape) → OneOf (1 ∷ 2 ∷ 3 ∷ 4 ∷ []) (tagOf shape.the-type s) → s ≡ Lits → ⊥
+else-lit s o e =
+    let p : OneOf (1 ∷ 2 ∷ 3 ∷ 4 ∷ []) 0 = subst (λ (s : Shape). OneOf (1 ∷ 2 ∷ 3 ∷ 4 ∷ []) (tagOf shape.the-type s)) e o in
+    ⊎-elim (λ e. omega arith) (λ q. ⊎-elim (λ e. omega arith) (λ q. ⊎-elim (λ e. omega arith) (λ e. omega arith) q) q) p
 
 -- ---- an answer that is known
 
@@ -41,9 +52,30 @@ no-room p t e o o′ l l′ h w = subst (λ (z : Restored). RestoredAnswer z p t
 pub over-of : {q p : Place} {b : Bool} {t : Table Bytes} {e : E} {o o′ l l′ : List ℕ} → Shown q p b t e o o′ l l′ → Areas o l → Over p q o′
 over-of w a = let r = written-room (w .written) a in record { low = omega (arith, w .written .rows); high = r .rows; words = r .areas .words }
 
--- a row that is put over what stands from p to q
-pub node-put : {a : Wrote} {s : Place} {c : Bool} (p q : Place) (h : Head) (n : ℕ) (b : Bool) (o o′ : List ℕ) → a ≡ Done s → RowAnswer a q h n o o′ → n ≡ q .rows - p .rows + 1 → c ≡ showsThrough (h .0) b → NodePut s p q c h b o o′
-node-put {a} {s} {c} p q h n b o o′ d r e f = record { row = subst (λ (m : ℕ). RowPut s q h m o o′) e (row-done q h n o o′ d r); shows = f }
+-- a writing of which b shows
+module _ (a : Wrote) (b : Bool) {r : Restored} where
+  pub told-answer : (p : Place) (t : Table Bytes) (e : E) (o o′ l l′ : List ℕ) → r ≡ toldBy a b → Answer a p e o o′ l l′ → b ≡ changes t e → RestoredAnswer r p t e o o′ l l′
+  told-answer p t e o o′ l l′ z w f = subst (λ (x : Restored). RestoredAnswer x p t e o o′ l l′) (sym z) (go a w)
+    where
+      go : (a : Wrote) → Answer a p e o o′ l l′ → RestoredAnswer (toldBy a b) p t e o o′ l l′
+      go (Done q) w = record { written = w; shows = f }
+      go NoRoom w = w
+
+  -- a row that is put over what stands from p to q
+  pub node-told : (p q : Place) (h : Head) (n : ℕ) (c : Bool) (o o′ : List ℕ) → r ≡ toldBy a b → RowAnswer a q h n o o′ → n ≡ q .rows - p .rows + 1 → b ≡ showsThrough (h .0) c → NodeAnswer r p q h c o o′
+  node-told p q h n c o o′ z w e f = subst (λ (x : Restored). NodeAnswer x p q h c o o′) (sym z) (go a (subst (λ (m : ℕ). RowAnswer a q h m o o′) e w))
+    where
+      go : (a : Wrote) → RowAnswer a q h (q .rows - p .rows + 1) o o′ → NodeAnswer (toldBy a b) p q h c o o′
+      go (Done s) w = record { row = w; shows = f }
+      go NoRoom w = w
+
+-- what a walk says without what shows
+pub wrote-answer : (a : Restored) {r : Wrote} (p : Place) (t : Table Bytes) (e : E) (o o′ l l′ : List ℕ) → r ≡ wroteBy a → RestoredAnswer a p t e o o′ l l′ → Answer r p e o o′ l l′
+wrote-answer a p t e o o′ l l′ z w = subst (λ (x : Wrote). Answer x p e o o′ l l′) (sym z) (go a w)
+  where
+    go : (a : Restored) → RestoredAnswer a p t e o o′ l l′ → Answer (wroteBy a) p e o o′ l l′
+    go (To q b) w = w .written
+    go Full w = w
 
 -- ---- a node over what was written
 
@@ -86,8 +118,8 @@ module _ {w : List ℕ} {i k : ℕ} {r : Expr Span} (f : RowIs w i k 0 0) (sh : 
   two-view = as-two (row-is f a) a sh
 
   -- the left child by the size word of the right one
-  pub two-left : {k′ x′ y′ n′ m : ℕ} → Found w (i - 1) k′ x′ y′ n′ → m ≡ n′ → At w (i - 1 - m) (two-view .left)
-  two-left {m = m} g c = left-at two-view m (c ∙ found-size g (two-view .atRight))
+  pub two-left : {m : ℕ} → m ≡ sizeAt w (i - 1) → At w (i - 1 - m) (two-view .left)
+  two-left {m} c = left-at two-view m (c ∙ root (two-view .atRight) .rows)
 
   module _ (s : Bytes) (t : Table Bytes) (g : Bool) (h : g ≡ isGuard k) where
     abbrev pub two-l : E
@@ -123,15 +155,19 @@ module _ {w : List ℕ} {i k x y n : ℕ} {r : Expr Span} (f : Found w i k x y n
   plain-restored : (c : Restored) (p : Place) (o o′ l l′ : List ℕ) → restore t (resolve s r) ≡ resolve s r → changes t (resolve s r) ≡ false → (changes t (resolve s r) ≡ false → RestoredAnswer c p t (resolve s r) o o′ l l′) → RestoredAnswer c p t (restore t (resolve s r)) o o′ l l′
   plain-restored c p o o′ l l′ e q h = rw e (h q)
 
-  pub num-restored : (c : Restored) (p : Place) (o o′ l l′ : List ℕ) → shapeOf k ≡ Num → (changes t (resolve s r) ≡ false → RestoredAnswer c p t (resolve s r) o o′ l l′) → RestoredAnswer c p t (restore t (resolve s r)) o o′ l l′
-  num-restored c p o o′ l l′ sh h =
-      let v = as-num f a sh in
-      plain-restored c p o o′ l l′ (rw (v .is) (restore-fixed t (v .op))) (rw (v .is) (changes-fixed t (v .op))) h
+  -- what is neither a literal nor has a child
+  pub plain-row : (c : Restored) (p : Place) (o o′ l l′ : List ℕ) → (shapeOf k ≡ Two → ⊥) → (shapeOf k ≡ Lits → ⊥) → (shapeOf k ≡ One → ⊥) → (changes t (resolve s r) ≡ false → RestoredAnswer c p t (resolve s r) o o′ l l′) → RestoredAnswer c p t (restore t (resolve s r)) o o′ l l′
+  plain-row c p o o′ l l′ two lits one h = go r refl
+    where
+      shape : {q : Expr Span} → r ≡ q → shapeOf k ≡ shapeIn q
+      shape e = ap shapeOf (sym (f .kind) ∙ root a .kind) ∙ shape-in r ∙ ap shapeIn e
 
-  pub skip-restored : (c : Restored) (p : Place) (o o′ l l′ : List ℕ) → shapeOf k ≡ Skips → (changes t (resolve s r) ≡ false → RestoredAnswer c p t (resolve s r) o o′ l l′) → RestoredAnswer c p t (restore t (resolve s r)) o o′ l l′
-  skip-restored c p o o′ l l′ sh h =
-      let v = as-skip f a sh in
-      plain-restored c p o o′ l l′ (rw (v .is) (restore-skip t _)) (rw (v .is) (changes-skip t _)) h
+      go : (q : Expr Span) → r ≡ q → RestoredAnswer c p t (restore t (resolve s r)) o o′ l l′
+      go (lit j z) e = absurd (lits (shape e))
+      go (fixed g) e = plain-restored c p o o′ l l′ (rw e (restore-fixed t g)) (rw e (changes-fixed t g)) h
+      go (skip ss) e = plain-restored c p o o′ l l′ (rw e (restore-skip t _)) (rw e (changes-skip t _)) h
+      go (un u z) e = absurd (one (shape e))
+      go (bin b y z) e = absurd (two (shape e))
 
 -- ---- literals and names
 
@@ -139,36 +175,15 @@ module _ (a : Wrote) (p : Place) (k : ℕ) (j : Lit) (s : Bytes) {x y x′ y′ 
   lit-answer : Answer a p (lit j (bytesAt s (x′, y′))) o o′ l l′
   lit-answer = lit-tree a p j (bytesAt s (x′, y′)) o o′ l l′ (rw (d, e, h) at w)
 
-  pub lit-full : a ≡ NoRoom → Fits p (lit j (bytesAt s (x′, y′))) o l → ⊥
-  lit-full q = full-not p (lit j (bytesAt s (x′, y′))) o o′ l l′ q lit-answer
+  pub lit-told : {r : Restored} (b : Bool) (t : Table Bytes) → r ≡ toldBy a b → b ≡ changes t (lit j (bytesAt s (x, y))) → RestoredAnswer r p t (lit j (bytesAt s (x′, y′))) o o′ l l′
+  lit-told b t z i = told-answer a b p t (lit j (bytesAt s (x′, y′))) o o′ l l′ z lit-answer (i ∙ ap₂ (λ (u v : ℕ). changes t (lit j (bytesAt s (u, v)))) d e)
 
-  module _ {q : Place} (n : a ≡ Done q) (t : Table Bytes) where
-    lit-written : Written q p (lit j (bytesAt s (x′, y′))) o o′ l l′
-    lit-written = done-written p (lit j (bytesAt s (x′, y′))) o o′ l l′ n lit-answer
+pub ident-shows : {k : ℕ} (j : Lit) {b : Bool} (t : Table Bytes) (s : Bytes) → k ≡ 3 → k ≡ litKind j → b ≡ changes t (lit Ident s) → b ≡ changes t (lit j s)
+ident-shows j t s z h i = i ∙ ap (λ (u : Lit). changes t (lit u s)) (lit-same Ident j (sym z ∙ h))
 
-    pub lit-plain : (k ≡ 3 → ⊥) → Shown q p false t (lit j (bytesAt s (x′, y′))) o o′ l l′
-    lit-plain z = record { written = lit-written; shows = sym (changes-lit t j (bytesAt s (x′, y′)) (λ i. z (h ∙ i))) }
-
-    pub lit-name : (b : Bool) → k ≡ 3 → b ≡ changes t (lit Ident (bytesAt s (x, y))) → Shown q p b t (lit j (bytesAt s (x′, y′))) o o′ l l′
-    lit-name b z i =
-        let g : Ident ≡ j = lit-same Ident j (sym z ∙ h) in
-        record { written = lit-written; shows = i ∙ ap₂ (λ (u v : ℕ). changes t (lit Ident (bytesAt s (u, v)))) d e ∙ ap (λ (u : Lit). changes t (lit u (bytesAt s (x′, y′)))) g }
-
-module _ (t : Table Bytes) (rules : List ℕ) (text : Bytes) (m : List ℕ) (su : Sure t rules text m) (key : Bytes) (c : Bool) (f : Found′) (n : c ≡ member key stackNames) (no : c ≡ false) (h : Finds (length rules / 4) rules text key f) where
+module _ (t : Table Bytes) (rules : List ℕ) (text : Bytes) (m : List ℕ) (su : Sure t rules text m) (key : Bytes) (c : Bool) (f : Found′) (n : c ≡ member key stackNames) (no : c ≡ false) (h : Finds (length rules / ruleWidth) rules text key f) where
   pub name-shows : {f′ : Found′} → f ≡ f′ → saysFound m f′ ≡ changes t (lit Ident key)
   name-shows {f′} e =
-      let g : Finds (length rules / 4) rules text key f′ = subst (λ (z : Found′). Finds (length rules / 4) rules text key z) e h in
+      let g : Finds (length rules / ruleWidth) rules text key f′ = subst (λ (z : Found′). Finds (length rules / ruleWidth) rules text key z) e h in
       let z : member key stackNames ≡ false = sym n ∙ no in
       sym (su .name key f′ g ∙ ap (λ (b : Bool). b || saysFound m f′) z)
-
--- a copy of which nothing shows
-module _ {a : Wrote} (p : Place) (t : Table Bytes) (e : E) (o o′ l l′ : List ℕ) (w : Answer a p e o o′ l l′) where
-  pub copy-full : a ≡ NoRoom → Fits p e o l → ⊥
-  copy-full h = full-not p e o o′ l l′ h w
-
-  pub copy-plain : {q : Place} → changes t e ≡ false → a ≡ Done q → Shown q p false t e o o′ l l′
-  copy-plain z h = record { written = done-written p e o o′ l l′ h w; shows = sym z }
-
--- what the walk says without what shows
-pub wrote-done : {a : Restored} {q : Place} {b : Bool} (p : Place) (t : Table Bytes) (e : E) (o o′ l l′ : List ℕ) → a ≡ To q b → RestoredAnswer a p t e o o′ l l′ → Written q p e o o′ l l′
-wrote-done p t e o o′ l l′ h w = shown-of p t e o o′ l l′ h w .written

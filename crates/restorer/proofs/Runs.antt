@@ -6,6 +6,7 @@ use mathlib.Core.Logic.{_⊎_, inl, inr}
 use Prim.Native.Nat.{ℕ, _+_, _-_, _/_, _≤_, _<_}
 use native.Mathlib.Omega.{arith}
 use lib.ListN.{length}
+use Rattle.grammar.specs.Numbers.{ruleWidth}
 use Rattle.grammar.specs.Basic.{Bytes}
 use Rattle.grammar.specs.Tree.{Expr, E, lit, fixed, skip, un, bin, size, isUn}
 use Rattle.grammar.specs.Rows.{Span}
@@ -15,7 +16,7 @@ use Rattle.grammar.specs.Stack.{Reaches, down, left, right, changesIn}
 use Rattle.rows.specs.Rows.{At}
 use Rattle.rows.proofs.Laws.{root, size-pos}
 use Rattle.rows.proofs.Views.{at-unique}
-use Rattle.restorer.specs.Search.{stateOf, loud, Quiet, Right, Reach, Kept, Searches, Closed, nowhere, Changing, Passing, Walked, Looked}
+use Rattle.restorer.specs.Search.{OPEN, stateOf, loud, Quiet, Right, Reach, Kept, Searches, Closed, nowhere, Changing, Passing, Walked, Looked}
 use Rattle.restorer.specs.Lends.{Lent, TreeRows}
 use Rattle.restorer.specs.Stacks.{Searching, Ran, topOf}
 use Rattle.restorer.specs.Walks.{Run, below, changesAt, AtRoot, Visited, GoesOn, Unseen, Least}
@@ -114,7 +115,7 @@ pub record So (s : Bytes) (t : Table Bytes) (top low : ℕ) (m m′ : List ℕ) 
   pub closed : Closed t low m m′
   pub quiet : (m″ : List ℕ) (low″ : ℕ) → Kept t m′ m″ → low″ ≤ low → AllQuiet (loud t m″ low″) s qs → Quiet t m″ low″ (resolve s r)
   pub reaches : AnyReaches t s qs → Reaches t (resolve s r)
-  pub leads : low < nowhere → Reach t m′ (λ v. v ≡ 4 + low) → Reaches t (resolve s r)
+  pub leads : low < nowhere → Reach t m′ (λ v. v ≡ OPEN + low) → Reaches t (resolve s r)
 
 module _ {s : Bytes} {t : Table Bytes} {top : ℕ} {m : List ℕ} where
   so-start : (r : Expr Span) → Right t m → So s t top nowhere m m r (r ∷ [])
@@ -150,7 +151,7 @@ module _ {s : Bytes} {t : Table Bytes} {top : ℕ} {m : List ℕ} where
         go (inl a) = inl (below-reaches t s q a)
         go (inr a) = inr a
 
-        lead : (low′ ≡ low) ⊎ (low′ ≡ l) → low′ < nowhere → Reach t m₂ (λ v. v ≡ 4 + low′) → Reaches t (resolve s r)
+        lead : (low′ ≡ low) ⊎ (low′ ≡ l) → low′ < nowhere → Reach t m₂ (λ v. v ≡ OPEN + low′) → Reaches t (resolve s r)
         lead (inl e) = rw e (leads-then kept low (h .leads))
         lead (inr e) = rw e (λ b f. h .reaches (inl (p .leads b f)))
 
@@ -161,7 +162,7 @@ module _ {s : Bytes} {t : Table Bytes} {top : ℕ} {m : List ℕ} where
   so-end {low} {m₁} h = record { searches = h .searches; closed = h .closed; quiet = h .quiet m₁ low (kept-none t m₁) (omega arith) tt; leads = h .leads }
 
 -- the rule that is to be asked
-pub asked : {k : ℕ} (rules m : List ℕ) (a : Step) → a ≡ Into k → Unseen a rules m → (k < length rules / 4) × (stateOf m k ≡ 0)
+pub asked : {k : ℕ} (rules m : List ℕ) (a : Step) → a ≡ Into k → Unseen a rules m → (k < length rules / ruleWidth) × (stateOf m k ≡ 0)
 asked rules m a e h = subst (λ (b : Step). Unseen b rules m) e h
 
 -- the rows from i to `end` are walked, which changed the marks m to m′ and the stack to st′, up to `high`
@@ -170,7 +171,7 @@ pub record Walking (rules rows : List ℕ) (text : Bytes) (m m′ st st′ : Lis
   pub at : At rows (end - 1) tree
   pub left : List (Expr Span)
   pub run : Run rows from i left
-  pub ran : Ran (length rules / 4) m m′ st′ top high
+  pub ran : Ran (length rules / ruleWidth) m m′ st′ top high
   pub long : length m′ ≡ length m
   pub longs : length st′ ≡ length st
   pub so : (t : Table Span) → Lent t rules rows → Right (resolveTable text t) m → So text (resolveTable text t) top low m m′ tree left
@@ -201,7 +202,7 @@ module _ {rules rows : List ℕ} {text : Bytes} {m st : List ℕ} {from end top 
       so-top t l h = subst (λ (qs : List (Expr Span)). So text (resolveTable text t) top low m m₁ (inv .tree) qs) (walk-top .is) (inv .so t l h)
 
       -- the row before i passes, and what is below it stands up to row j
-      passed : {m₂ st₂ : List ℕ} {j l low′ high′ : ℕ} → Ran (length rules / 4) m₁ m₂ st₂ high high′ → length m₂ ≡ length m₁ → length st₂ ≡ length st₁ → GoesOn (Next j l) rows (i - 1) (walk-top .tree) → Least low′ low l
+      passed : {m₂ st₂ : List ℕ} {j l low′ high′ : ℕ} → Ran (length rules / ruleWidth) m₁ m₂ st₂ high high′ → length m₂ ≡ length m₁ → length st₂ ≡ length st₁ → GoesOn (Next j l) rows (i - 1) (walk-top .tree) → Least low′ low l
           → ((t : Table Span) → Lent t rules rows → Right (resolveTable text t) m₁ → AtRoot (Silent l high′) text (resolveTable text t) high m₁ m₂ (walk-top .tree)) → Walking rules rows text m m₂ st st₂ from end top j low′ high′
       passed {m₂} {st₂} {j} ran long longs g ls passing =
           let q = walk-top in
@@ -244,11 +245,11 @@ module _ {rules rows : List ℕ} {text : Bytes} {m st : List ℕ} {from end top 
         walk-met e = met high (λ t l h. said e t l h high)
 
         -- and the rule that it asks
-        module _ {m₂ st₂ : List ℕ} {k : ℕ} {b : Outcome} (e : a ≡ Into k) (ran : Ran (length rules / 4) m₁ m₂ st₂ high (topOf b)) (looks : (t : Table Span) → Lent t rules rows → Right (resolveTable text t) m₁ → Looked b (resolveTable text t) high m₁ m₂ k) where
+        module _ {m₂ st₂ : List ℕ} {k : ℕ} {b : Outcome} (e : a ≡ Into k) (ran : Ran (length rules / ruleWidth) m₁ m₂ st₂ high (topOf b)) (looks : (t : Table Span) → Lent t rules rows → Right (resolveTable text t) m₁ → Looked b (resolveTable text t) high m₁ m₂ k) where
           pub walk-past : {l low′ high′ : ℕ} → b ≡ Silent l high′ → Least low′ low l → length m₂ ≡ length m₁ → length st₂ ≡ length st₁ → Walking rules rows text m m₂ st st₂ from end top (i - 1) low′ high′
           walk-past {l} {low′} {high′} f ls long longs = passed (rw f at ran) long longs (onward e) ls (λ t v h. said e t v h (Silent l high′) high m₂ (rw f at (looks t v h)))
 
-          pub walk-ran : {high′ : ℕ} → b ≡ Reached high′ → Ran (length rules / 4) m m₂ st₂ top high′
+          pub walk-ran : {high′ : ℕ} → b ≡ Reached high′ → Ran (length rules / ruleWidth) m m₂ st₂ top high′
           walk-ran f = ran-more (inv .ran) (rw f at ran)
 
           pub walk-told : {high′ : ℕ} → b ≡ Reached high′ → (t : Table Span) (r : Expr Span) → Lent t rules rows → At rows (end - 1) r → Right (resolveTable text t) m → Walked (Reached high′) (resolveTable text t) top m m₂ (resolve text r)

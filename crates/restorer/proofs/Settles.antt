@@ -15,7 +15,7 @@ use Rattle.grammar.specs.Tree.{E, Un, un, isUn}
 use Rattle.grammar.specs.Table.{Rule, Table}
 use Rattle.grammar.specs.Stack.{stackNames, Reaches, at-push, at-name, through, down, left, right, changesIn}
 use Rattle.grammar.proofs.Logic.{none-some, some-eq, or-left}
-use Rattle.restorer.specs.Search.{stateOf, memoryOf, isQuiet, loud, Quiet, Right, RuleReaches, Reach, Kept, Searches, Closed, nowhere, Changing, Passing, Walked, Looked, RuleSettled}
+use Rattle.restorer.specs.Search.{OPEN, stateOf, memoryOf, isQuiet, loud, Quiet, Right, RuleReaches, Reach, Kept, Searches, Closed, nowhere, Changing, Passing, Walked, Looked, RuleSettled}
 use Rattle.restorer.specs.Stacks.{Stacked, topOf, Closes, Leaves}
 use Rattle.restorer.specs.Walks.{positionOf}
 use Rattle.restorer.specs.declared.Outcome.{Outcome}
@@ -30,7 +30,7 @@ down-quiet : (look : Bytes → Bool) (u : Un) (e : E) → isUn 19 u ≡ false �
 down-quiet look u e p h = subst (λ (b : Bool). (not b && changesIn look e) ≡ false) p (or-no-right (isUn 18 u) (not (isUn 19 u) && changesIn look e) h)
 
 -- what is quiet, over rules that are closed, reaches no change
-module _ (t : Table Bytes) (m : List ℕ) (from : ℕ) (right′ : Right t m) (closed : (i : ℕ) (r : Rule Bytes) → getElem? t i ≡ some r → 4 + from ≤ stateOf m i → Quiet t m from (r .body)) where
+module _ (t : Table Bytes) (m : List ℕ) (from : ℕ) (right′ : Right t m) (closed : (i : ℕ) (r : Rule Bytes) → getElem? t i ≡ some r → OPEN + from ≤ stateOf m i → Quiet t m from (r .body)) where
   settles : (e : E) → Reaches t e → Quiet t m from e → ⊥
   settles e (at-push {e = y}) q = clash {b = true} refl q
   settles e (at-name {x = x} h) q = clash (or-left (member x stackNames) _ h) q
@@ -39,7 +39,7 @@ module _ (t : Table Bytes) (m : List ℕ) (from : ℕ) (right′ : Right t m) (c
       quiet : isQuiet from (memoryOf t m x) ≡ true
       quiet = not-loud from (memoryOf t m x) (or-no-right (member x stackNames) (loud t m from x) q)
 
-      at : (k : Known t x) → (Quiet t m from y → ⊥) → y ≡ k .rule .body → (stateOf m (k .place) ≡ 2) ⊎ (4 + from ≤ stateOf m (k .place)) → ⊥
+      at : (k : Known t x) → (Quiet t m from y → ⊥) → y ≡ k .rule .body → (stateOf m (k .place) ≡ 2) ⊎ (OPEN + from ≤ stateOf m (k .place)) → ⊥
       at k ih e (inl s) = right′ .no (k .place) (k .rule) (k .is) s (rw e at r)
       at k ih e (inr s) = ih (rw e (closed (k .place) (k .rule) (k .is) s))
 
@@ -54,14 +54,14 @@ module _ (t : Table Bytes) (m : List ℕ) (from : ℕ) (right′ : Right t m) (c
 
 module _ (t : Table Bytes) {m m′ st : List ℕ} {from to : ℕ} (c : Closes (length t) m m′ st from to) where
   -- a memory was turned, or is the same
-  closes-case : (i : ℕ) → i < length t → (4 + from ≤ stateOf m i × stateOf m′ i ≡ to) ⊎ (stateOf m i < 4 + from × stateOf m′ i ≡ stateOf m i)
-  closes-case i l = go (decLt (stateOf m i) (4 + from))
+  closes-case : (i : ℕ) → i < length t → (OPEN + from ≤ stateOf m i × stateOf m′ i ≡ to) ⊎ (stateOf m i < OPEN + from × stateOf m′ i ≡ stateOf m i)
+  closes-case i l = go (decLt (stateOf m i) (OPEN + from))
     where
-      go : Dec (stateOf m i < 4 + from) → (4 + from ≤ stateOf m i × stateOf m′ i ≡ to) ⊎ (stateOf m i < 4 + from × stateOf m′ i ≡ stateOf m i)
+      go : Dec (stateOf m i < OPEN + from) → (OPEN + from ≤ stateOf m i × stateOf m′ i ≡ to) ⊎ (stateOf m i < OPEN + from × stateOf m′ i ≡ stateOf m i)
       go (yes h) = inr (h, c .kept i l h)
-      go (no h) = let k : 4 + from ≤ stateOf m i = omega arith in inl (k, c .turned i l k)
+      go (no h) = let k : OPEN + from ≤ stateOf m i = omega arith in inl (k, c .turned i l k)
 
-  closes-right : Right t m → (to ≡ 1 → ⊥) → ((i : ℕ) → 4 + from ≤ stateOf m i → (r : Rule Bytes) → getElem? t i ≡ some r → (to ≡ 2 → Reaches t (r .body) → ⊥) × (to ≡ 3 → Reaches t (r .body))) → Right t m′
+  closes-right : Right t m → (to ≡ 1 → ⊥) → ((i : ℕ) → OPEN + from ≤ stateOf m i → (r : Rule Bytes) → getElem? t i ≡ some r → (to ≡ 2 → Reaches t (r .body) → ⊥) × (to ≡ 3 → Reaches t (r .body))) → Right t m′
   closes-right h n f =
       record {
         states = λ i l. states i l (closes-case i l);
@@ -70,7 +70,7 @@ module _ (t : Table Bytes) {m m′ st : List ℕ} {from to : ℕ} (c : Closes (l
       }
     where
       Case : ℕ → Type 0
-      Case i = (4 + from ≤ stateOf m i × stateOf m′ i ≡ to) ⊎ (stateOf m i < 4 + from × stateOf m′ i ≡ stateOf m i)
+      Case i = (OPEN + from ≤ stateOf m i × stateOf m′ i ≡ to) ⊎ (stateOf m i < OPEN + from × stateOf m′ i ≡ stateOf m i)
 
       states : (i : ℕ) → i < length t → Case i → stateOf m′ i ≡ 1 → ⊥
       states i l (inl p) e = n (sym (p .1) ∙ e)
@@ -90,14 +90,14 @@ module _ (t : Table Bytes) {m m′ st : List ℕ} {from to : ℕ} (c : Closes (l
 pub look-yes : {t : Table Bytes} {m : List ℕ} (i top : ℕ) → Right t m → stateOf m i ≡ 3 → Looked (Reached top) t top m m i
 look-yes i top h e = (omega arith, record { searches = searches-none h; reaches = λ r is. h .yes i r is e })
 
-position-case : (v : ℕ) → (v ≡ 0 → ⊥) → (v ≡ 1 → ⊥) → (v ≡ 3 → ⊥) → ((v ≡ 2) × (positionOf v ≡ nowhere)) ⊎ (v ≡ 4 + positionOf v)
-position-case v a b c = go (leb 4 v) refl
+position-case : (v : ℕ) → (v ≡ 0 → ⊥) → (v ≡ 1 → ⊥) → (v ≡ 3 → ⊥) → ((v ≡ 2) × (positionOf v ≡ nowhere)) ⊎ (v ≡ OPEN + positionOf v)
+position-case v a b c = go (leb OPEN v) refl
   where
-    go : (d : Bool) → leb 4 v ≡ d → ((v ≡ 2) × (cond d (v - 4) nowhere ≡ nowhere)) ⊎ (v ≡ 4 + cond d (v - 4) nowhere)
-    go true e = inr (omega (arith, leb-true 4 v e))
-    go false e = inl (two v a b c (leb-false 4 v e), refl)
+    go : (d : Bool) → leb OPEN v ≡ d → ((v ≡ 2) × (cond d (v - OPEN) nowhere ≡ nowhere)) ⊎ (v ≡ OPEN + cond d (v - OPEN) nowhere)
+    go true e = inr (omega (arith, leb-true OPEN v e))
+    go false e = inl (two v a b c (leb-false OPEN v e), refl)
       where
-        two : (n : ℕ) → (n ≡ 0 → ⊥) → (n ≡ 1 → ⊥) → (n ≡ 3 → ⊥) → n < 4 → n ≡ 2
+        two : (n : ℕ) → (n ≡ 0 → ⊥) → (n ≡ 1 → ⊥) → (n ≡ 3 → ⊥) → n < OPEN → n ≡ 2
         two zero a b c l = absurd (a refl)
         two (suc zero) a b c l = absurd (b refl)
         two (suc (suc zero)) a b c l = refl
@@ -110,12 +110,12 @@ look-no {t} {m} i top l h n z = go (position-case (stateOf m i) z (h .states i l
     low : ℕ
     low = positionOf (stateOf m i)
 
-    go : ((stateOf m i ≡ 2) × (positionOf (stateOf m i) ≡ nowhere)) ⊎ (stateOf m i ≡ 4 + positionOf (stateOf m i)) → Looked (Silent (positionOf (stateOf m i)) top) t top m m i
+    go : ((stateOf m i ≡ 2) × (positionOf (stateOf m i) ≡ nowhere)) ⊎ (stateOf m i ≡ OPEN + positionOf (stateOf m i)) → Looked (Silent (positionOf (stateOf m i)) top) t top m m i
     go (inl p) = (omega (arith, p .0), record { searches = searches-none h; closed = closed-none t low m; quiet = state-quiet low (stateOf m i) (inl (p .0)); leads = λ k. absurd (omega (arith, p .1)) })
     go (inr e) = (omega (arith, e), record { searches = searches-none h; closed = closed-none t low m; quiet = state-quiet low (stateOf m i) (inr (omega (arith, e))); leads = λ k f. f i e })
 
 -- one that was not seen comes to position `top`, and its rows are walked
-module _ {t : Table Bytes} {m m₁ : List ℕ} {i : ℕ} (top : ℕ) (rule : Rule Bytes) (is : getElem? t i ≡ some rule) (z : stateOf m i ≡ 0) (s : Sets m m₁ i (4 + top)) (h : Right t m) where
+module _ {t : Table Bytes} {m m₁ : List ℕ} {i : ℕ} (top : ℕ) (rule : Rule Bytes) (is : getElem? t i ≡ some rule) (z : stateOf m i ≡ 0) (s : Sets m m₁ i (OPEN + top)) (h : Right t m) where
   pub open-right : Right t m₁
   open-right =
       record {
@@ -128,7 +128,7 @@ module _ {t : Table Bytes} {m m₁ : List ℕ} {i : ℕ} (top : ℕ) (rule : Rul
       states j l (yes e) q = omega (arith, ap (stateOf m₁) e, s .here)
       states j l (no e) q = h .states j l (sym (s .others j e) ∙ q)
 
-      same : (j : ℕ) {v : ℕ} → stateOf m₁ j ≡ v → v < 4 → Dec (j ≡ i) → stateOf m j ≡ v
+      same : (j : ℕ) {v : ℕ} → stateOf m₁ j ≡ v → v < OPEN → Dec (j ≡ i) → stateOf m j ≡ v
       same j q l (yes e) = absurd (omega (arith, ap (stateOf m₁) e, s .here))
       same j q l (no e) = sym (s .others j e) ∙ q
 
@@ -136,7 +136,7 @@ module _ {t : Table Bytes} {m m₁ : List ℕ} {i : ℕ} (top : ℕ) (rule : Rul
     below : i < length t
     below = inside-rule t i rule is
 
-    still : stateOf m₂ i ≡ 4 + top
+    still : stateOf m₂ i ≡ OPEN + top
     still = a .kept .same i below (omega (arith, s .here)) ∙ s .here
 
     kept : Kept t m m₂
@@ -146,7 +146,7 @@ module _ {t : Table Bytes} {m m₁ : List ℕ} {i : ℕ} (top : ℕ) (rule : Rul
         go j l k (yes e) = absurd (omega (arith, ap (stateOf m) e))
         go j l k (no n) = a .kept .same j l (omega (arith, s .others j n)) ∙ s .others j n
 
-    was : (j : ℕ) → j < length t → 4 ≤ stateOf m₂ j → stateOf m₂ j < 4 + top → stateOf m j ≡ stateOf m₂ j
+    was : (j : ℕ) → j < length t → OPEN ≤ stateOf m₂ j → stateOf m₂ j < OPEN + top → stateOf m j ≡ stateOf m₂ j
     was j l lo hi = go (ℕ-discrete j i)
       where
         go : Dec (j ≡ i) → stateOf m j ≡ stateOf m₂ j
@@ -154,10 +154,10 @@ module _ {t : Table Bytes} {m m₁ : List ℕ} {i : ℕ} (top : ℕ) (rule : Rul
         go (no n) = sym (s .others j n) ∙ a .was j l lo (omega arith)
 
     -- if it reaches a change, so do those that come after it
-    searches : (Reach t m (λ v. 4 ≤ v) → Reaches t (rule .body)) → Searches t top m m₂
+    searches : (Reach t m (λ v. OPEN ≤ v) → Reaches t (rule .body)) → Searches t top m m₂
     searches f = record { right = a .right; kept = kept; was = was; spreads = λ g. a .spreads (λ j l r k. go j l r k (f g) g (ℕ-discrete j i)) }
       where
-        go : (j : ℕ) → 4 ≤ stateOf m₁ j → (r : Rule Bytes) → getElem? t j ≡ some r → Reaches t (rule .body) → Reach t m (λ v. 4 ≤ v) → Dec (j ≡ i) → Reaches t (r .body)
+        go : (j : ℕ) → OPEN ≤ stateOf m₁ j → (r : Rule Bytes) → getElem? t j ≡ some r → Reaches t (rule .body) → Reach t m (λ v. OPEN ≤ v) → Dec (j ≡ i) → Reaches t (r .body)
         go j l r k p g (yes e) = rw (some-eq _ _ (sym is ∙ (rw e at k))) at p
         go j l r k p g (no n) = g j (omega (arith, s .others j n)) r k
 
@@ -187,8 +187,8 @@ module _ {t : Table Bytes} {m m₁ : List ℕ} {i : ℕ} (top : ℕ) (rule : Rul
         }
 
     -- settled with its group
-    module _ {m₃ st : List ℕ} (lower : (j : ℕ) → j < length t → stateOf m j < 4 + top) (l : top ≤ low) (c : Closes (length t) m₂ m₃ st top 2) where
-      quiet-all : (j : ℕ) (r : Rule Bytes) → getElem? t j ≡ some r → 4 + top ≤ stateOf m₂ j → Quiet t m₂ top (r .body)
+    module _ {m₃ st : List ℕ} (lower : (j : ℕ) → j < length t → stateOf m j < OPEN + top) (l : top ≤ low) (c : Closes (length t) m₂ m₃ st top 2) where
+      quiet-all : (j : ℕ) (r : Rule Bytes) → getElem? t j ≡ some r → OPEN + top ≤ stateOf m₂ j → Quiet t m₂ top (r .body)
       quiet-all j r k v = stays-quiet (kept-none t m₂) l (r .body) (closed-more (a .searches) low (a .quiet) (a .closed) j r k (new (stateOf m j) refl) (omega arith))
         where
           new : (n : ℕ) → stateOf m j ≡ n → stateOf m j ≡ 0
@@ -198,10 +198,10 @@ module _ {t : Table Bytes} {m m₁ : List ℕ} {i : ℕ} (top : ℕ) (rule : Rul
       here : stateOf m₃ i ≡ 2
       here = c .turned i (below (a .searches)) (omega (arith, still (a .searches)))
 
-      was₃ : (j : ℕ) → j < length t → 4 ≤ stateOf m₃ j → stateOf m j ≡ stateOf m₃ j
+      was₃ : (j : ℕ) → j < length t → OPEN ≤ stateOf m₃ j → stateOf m j ≡ stateOf m₃ j
       was₃ j b v = go (closes-case t c j b)
         where
-          go : (4 + top ≤ stateOf m₂ j × stateOf m₃ j ≡ 2) ⊎ (stateOf m₂ j < 4 + top × stateOf m₃ j ≡ stateOf m₂ j) → stateOf m j ≡ stateOf m₃ j
+          go : (OPEN + top ≤ stateOf m₂ j × stateOf m₃ j ≡ 2) ⊎ (stateOf m₂ j < OPEN + top × stateOf m₃ j ≡ stateOf m₂ j) → stateOf m j ≡ stateOf m₃ j
           go (inl p) = absurd (omega (arith, p .1))
           go (inr p) = was (a .searches) j b (omega (arith, p .1)) (p .0) ∙ sym (p .1)
 
@@ -220,7 +220,7 @@ module _ {t : Table Bytes} {m m₁ : List ℕ} {i : ℕ} (top : ℕ) (rule : Rul
           }
 
   -- by the answer of the walk
-  pub looked : (o b : Outcome) (m₂ m₃ st : List ℕ) → ((j : ℕ) → j < length t → stateOf m j < 4 + top) → top ≤ nowhere → Leaves o b top m₂ m₃ st → Stacked (length t) m₂ st (topOf o) → Walked o t (top + 1) m₁ m₂ (rule .body) → Looked b t top m m₃ i
+  pub looked : (o b : Outcome) (m₂ m₃ st : List ℕ) → ((j : ℕ) → j < length t → stateOf m j < OPEN + top) → top ≤ nowhere → Leaves o b top m₂ m₃ st → Stacked (length t) m₂ st (topOf o) → Walked o t (top + 1) m₁ m₂ (rule .body) → Looked b t top m m₃ i
   looked (Reached high) b m₂ m₃ st lower few (e, q) c a = rw (e, q) (omega (arith, still (a .searches)), looked-yes a)
   looked (Silent low high) b m₂ m₃ st lower few (inl (l, e, q)) c a = rw (e, q) (omega (arith, still (a .searches)), looked-open a l few)
   looked (Silent low high) b m₂ m₃ st lower few (inr (l, e, q)) c a = let d = q (length t) c in rw e (omega (arith, here a lower l d), looked-closed a lower l d)
@@ -237,7 +237,7 @@ module _ {t : Table Bytes} {m m₁ m₂ st : List ℕ} {i : ℕ} (low : (j : ℕ
         kept = record { same = λ j l h. let e = s .kept .same j l h in c .kept j l (omega (arith, e, low j l)) ∙ e };
       }
     where
-      go : (4 + 0 ≤ stateOf m₁ i × stateOf m₂ i ≡ 3) ⊎ (stateOf m₁ i < 4 + 0 × stateOf m₂ i ≡ stateOf m₁ i) → 2 ≤ stateOf m₂ i
+      go : (OPEN + 0 ≤ stateOf m₁ i × stateOf m₂ i ≡ 3) ⊎ (stateOf m₁ i < OPEN + 0 × stateOf m₂ i ≡ stateOf m₁ i) → 2 ≤ stateOf m₂ i
       go (inl p) = omega (arith, p .1)
       go (inr p) = omega (arith, p .1, a .0)
 

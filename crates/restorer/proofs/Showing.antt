@@ -8,6 +8,7 @@ use Prim.Native.Nat.{ℕ, zero, suc, _/_, _<_}
 use native.Mathlib.Omega.{arith}
 use lib.ListN.{length}
 use lib.Dec.{eqb}
+use Rattle.grammar.specs.Numbers.{ruleWidth}
 use Rattle.grammar.specs.Basic.{Bytes, member}
 use Rattle.grammar.specs.Tree.{Lit, Str, Insens, Ident, Fixed, Un, PosPred, NegPred, Opt, Rep, RepOnce, Push, RestoreOnErr, RepExact, RepMin, RepMax, RepMinMax, Bin, Seq, Choice, E, lit, fixed, skip, un, bin, litKind, unHead, binKind}
 use Rattle.grammar.specs.Rows.{Span}
@@ -151,7 +152,7 @@ stack-shows t x h = sym (changes-is t (lit Ident x) .1 (at-name h))
 
 -- SETTLED MARKS SAY WHETHER THE STACK CAN CHANGE THROUGH A NAME
 module _ {rules rows : List ℕ} (text : Bytes) (t : Table Span) (lent : Lent t rules rows) (m : List ℕ) (h : Settled (resolveTable text t) m) where
-  says-yes : (key : Bytes) (f : Found) → Finds (length rules / 4) rules text key f → Through (resolveTable text t) key → saysFound m f ≡ true
+  says-yes : (key : Bytes) (f : Found) → Finds (length rules / ruleWidth) rules text key f → Through (resolveTable text t) key → saysFound m f ≡ true
   says-yes key Nothing n th = none-some (sym (not-found text key t (rw (lent .heads) n)) ∙ th .finds)
   says-yes key (At i) n th = go (stateOf m i) refl
     where
@@ -171,7 +172,7 @@ module _ {rules rows : List ℕ} (text : Bytes) (t : Table Span) (lent : Lent t 
       go (suc (suc (suc zero))) e = refl
       go (suc (suc (suc (suc v)))) e = absurd (omega (arith, h .states i below))
 
-  yes-says : (key : Bytes) (f : Found) → Finds (length rules / 4) rules text key f → saysFound m f ≡ true → Reaches (resolveTable text t) (lit Ident key)
+  yes-says : (key : Bytes) (f : Found) → Finds (length rules / ruleWidth) rules text key f → saysFound m f ≡ true → Reaches (resolveTable text t) (lit Ident key)
   yes-says key Nothing n s = absurd (false≢true s)
   yes-says key (At i) n s =
       let l : Looked text key t i = looked text key t i (rw (lent .heads) n) in
@@ -180,7 +181,7 @@ module _ {rules rows : List ℕ} (text : Bytes) (t : Table Span) (lent : Lent t 
   pub sure : Sure (resolveTable text t) rules text m
   sure = record { name = name }
     where
-      name : (key : Bytes) (f : Found) → Finds (length rules / 4) rules text key f → changes (resolveTable text t) (lit Ident key) ≡ (member key stackNames || saysFound m f)
+      name : (key : Bytes) (f : Found) → Finds (length rules / ruleWidth) rules text key f → changes (resolveTable text t) (lit Ident key) ≡ (member key stackNames || saysFound m f)
       name key f n = same-bool _ _ (λ c. forth (name-reaches (resolveTable text t) (lit Ident key) (changes-is (resolveTable text t) (lit Ident key) .0 c) key refl)) (λ c. changes-is (resolveTable text t) (lit Ident key) .1 (back (or-case (member key stackNames) (saysFound m f) c)))
         where
           forth : (member key stackNames ≡ true) ⊎ Through (resolveTable text t) key → (member key stackNames || saysFound m f) ≡ true
@@ -197,6 +198,6 @@ known {text = text} {m = m} g s =
     record {
       table = resolveTable text (g .table);
       sure = sure text (g .table) (g .lent) m (s .settled (g .table) (g .lent));
-      hashed = g .hashed;
+      index = g .index;
       inside = g .inside;
     }

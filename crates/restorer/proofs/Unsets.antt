@@ -5,6 +5,7 @@ use mathlib.Core.List.{List}
 use Prim.Native.Nat.{ℕ, _+_, _-_, _*_, _≤_}
 use native.Mathlib.Omega.{arith}
 use lib.ListN.{getD}
+use Rattle.grammar.specs.Numbers.{ruleWidth, rowsWord}
 use Rattle.grammar.specs.Basic.{Bytes}
 use Rattle.grammar.specs.Tree.{Un, PosPred, NegPred, Opt, Rep, RepOnce, Push, RestoreOnErr, RepExact, RepMin, RepMax, RepMinMax, Bin, Seq, Choice, Expr, E, lit, fixed, skip, un, bin, binKind, unHead, size}
 use Rattle.grammar.specs.Rows.{Span}
@@ -80,7 +81,7 @@ module _ {rules rows : List ℕ} {text : Bytes} {m : List ℕ} (i last : ℕ) (o
   pub restore-no : (r : Expr Span) → At rows last r → Unset rows last (size r) → restore (resolveTable text t) (resolve text r) ≡ resolve text r
   restore-no r a n =
       let h : There t i = rule-there lent i (own .below) in
-      let b : At rows (last + 1 - 1) (h .rule .body) = rule-at lent m i h (own .below) (s .ended) (last + 1) (getD rules (i * 4 + 3) 0) (own .ends) refl in
+      let b : At rows (last + 1 - 1) (h .rule .body) = rule-at lent m i h (own .below) (s .ended) (last + 1) (getD rules (i * ruleWidth + rowsWord) 0) (own .ends) refl in
       let q : last + 1 - 1 ≡ last = omega arith in
       let e : h .rule .body ≡ r = at-unique (h .rule .body) r (rw q at b) a in
       restore-unset (resolveTable text t) text rows r a n (rw e at (body-calm h))

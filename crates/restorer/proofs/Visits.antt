@@ -6,6 +6,7 @@ use Prim.Native.Nat.{ℕ, _+_, _-_, _/_, _≤_, _<_}
 use native.Mathlib.Omega.{arith}
 use lib.ListN.{length}
 use lib.Dec.{eqb}
+use Rattle.grammar.specs.Numbers.{ruleWidth, rowWidth}
 use Rattle.grammar.specs.Basic.{Bytes, member}
 use Rattle.grammar.specs.Tree.{Str, Insens, Ident, Range, PeekSlice, PeekFrom, Un, PosPred, NegPred, Opt, Rep, RepOnce, Push, RestoreOnErr, RepExact, RepMin, RepMax, RepMinMax, Bin, Seq, Choice, Expr, lit, fixed, skip, un, bin, unHead, size}
 use Rattle.grammar.specs.Rows.{Span}
@@ -100,7 +101,7 @@ module _ (s : Bytes) (t : Table Bytes) (m : List ℕ) (h : Right t m) where
   visits i (bin Choice e f) n = passes (bin Choice e f) refl
 
 -- the words of row i
-pub words-at : (w : List ℕ) (i : ℕ) → i < length w / 4 → Found w i (kindAt w i) (xAt w i) (yAt w i) (sizeAt w i)
+pub words-at : (w : List ℕ) (i : ℕ) → i < length w / rowWidth → Found w i (kindAt w i) (xAt w i) (yAt w i) (sizeAt w i)
 words-at w i h = record { within = h; kind = refl; x = refl; y = refl; rows = refl }
 
 -- the step from a row that was read
@@ -146,7 +147,7 @@ module _ (P : Step → Type 0) (s k i : ℕ) where
       go false true p q = y (eqb-eq s 0 q)
       go false false p q = z (no 3 p) (no 0 q)
 
-pub asks-unseen : (i k : ℕ) (rules m : List ℕ) (a : Step) → k < length rules / 4 → a ≡ recalled (stateOf m k) k i → Unseen a rules m
+pub asks-unseen : (i k : ℕ) (rules m : List ℕ) (a : Step) → k < length rules / ruleWidth → a ≡ recalled (stateOf m k) k i → Unseen a rules m
 asks-unseen i k rules m a h = recalled-case (λ b. Unseen b rules m) (stateOf m k) k i (λ _. tt) (λ z. (h, z)) (λ _ _. tt) a
 
 pub finds-below : {j : ℕ} (n : ℕ) (rules : List ℕ) (s key : Bytes) (found : Found′) → Finds n rules s key found → found ≡ Sited j → j < n
@@ -167,22 +168,22 @@ module _ {w : List ℕ} {i k x y n : ℕ} (f : Found w i k x y n) (z : k ≡ 3) 
   stack-name s t m c r d e g h b l top = rw (ident-is r b) (record { searches = searches-none l; reaches = at-name (rw (d, e, h) at (sym g)) })
 
   -- one that does not, and what a search by name found
-  module _ {p q : ℕ} {rules rows : List ℕ} (s : Bytes) (t : Table Span) (lent : Lent t rules rows) (m : List ℕ) (c : Bool) (found : Found′) (r : Expr Span) (d : p ≡ x) (e : q ≡ y) (g : c ≡ member (bytesAt s (p, q)) stackNames) (h : c ≡ false) (finds : Finds (length rules / 4) rules s (bytesAt s (p, q)) found) (b : At w i r) where
+  module _ {p q : ℕ} {rules rows : List ℕ} (s : Bytes) (t : Table Span) (lent : Lent t rules rows) (m : List ℕ) (c : Bool) (found : Found′) (r : Expr Span) (d : p ≡ x) (e : q ≡ y) (g : c ≡ member (bytesAt s (p, q)) stackNames) (h : c ≡ false) (finds : Finds (length rules / ruleWidth) rules s (bytesAt s (p, q)) found) (b : At w i r) where
     plain : member (bytesAt s (x, y)) stackNames ≡ false
     plain = rw (d, e, h) at (sym g)
 
-    here : Finds (length rules / 4) rules s (bytesAt s (x, y)) found
+    here : Finds (length rules / ruleWidth) rules s (bytesAt s (x, y)) found
     here = rw (d, e) at finds
 
     pub ident-nothing : found ≡ Nothing → Right (resolveTable s t) m → (top : ℕ) → AtRoot (Silent nowhere top) s (resolveTable s t) top m m r
     ident-nothing o l =
-        let u : Finds (length rules / 4) rules s (bytesAt s (x, y)) Nothing = rw o at here in
+        let u : Finds (length rules / ruleWidth) rules s (bytesAt s (x, y)) Nothing = rw o at here in
         let v : memoryOf (resolveTable s t) m (bytesAt s (x, y)) ≡ 2 = memory-none (resolveTable s t) m (bytesAt s (x, y)) (not-found s (bytesAt s (x, y)) t (rw (lent .heads) u)) in
         rw (ident-is r b)
         (passes s (resolveTable s t) m l (lit Ident (x, y)) (or-no (member (bytesAt s (x, y)) stackNames) (loud (resolveTable s t) m nowhere (bytesAt s (x, y))) plain (ap (λ (j : ℕ). not (isQuiet nowhere j)) v)))
 
     module _ {j : ℕ} (o : found ≡ Sited j) where
-      first : First (length rules / 4) rules s (bytesAt s (x, y)) j
+      first : First (length rules / ruleWidth) rules s (bytesAt s (x, y)) j
       first = rw o at here
 
       rule : Looked s (bytesAt s (x, y)) t j

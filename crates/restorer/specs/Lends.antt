@@ -3,12 +3,13 @@ use mathlib.Core.Path.{_≡_}
 use mathlib.Core.List.{List}
 use Prim.Native.Nat.{ℕ, _+_, _-_, _*_}
 use lib.ListN.{length, getD}
+use Rattle.grammar.specs.Numbers.{markWidth}
 use Rattle.grammar.specs.Basic.{Bytes}
 use Rattle.grammar.specs.Tree.{Expr, size}
 use Rattle.grammar.specs.Rows.{Span}
 use Rattle.grammar.specs.Table.{Table, ruleWords, rowWords, resolveTable}
 use Rattle.rows.specs.Rows.{Inside, At}
-use Rattle.names.specs.Names.{Hashed, Ended}
+use Rattle.names.specs.Names.{AllIndexed, Ended, waysWord, endWord}
 use Rattle.restorer.specs.Search.{Settled}
 
 -- the words are those of the table t
@@ -21,7 +22,7 @@ pub record Marked (rules rows : List ℕ) (text : Bytes) (marks : List ℕ) : Ty
   pub table : Table Span
   pub lent : Lent table rules rows
   pub inside : Inside rows (length text)
-  pub hashed : Hashed rules text marks
+  pub index : AllIndexed rules text marks
 
 -- with the ends of their rows
 pub record Given (rules rows : List ℕ) (text : Bytes) (marks : List ℕ) : Type 0 where
@@ -30,9 +31,9 @@ pub record Given (rules rows : List ℕ) (text : Bytes) (marks : List ℕ) : Typ
 
 -- nothing but memories is changed
 pub record Steady (m m′ : List ℕ) : Type 0 where
-  pub hash : (i : ℕ) → getD m′ (i * 4) 0 ≡ getD m (i * 4) 0
-  pub chain : (i : ℕ) → getD m′ (i * 4 + 2) 0 ≡ getD m (i * 4 + 2) 0
-  pub end : (i : ℕ) → getD m′ (i * 4 + 3) 0 ≡ getD m (i * 4 + 3) 0
+  pub slots : (i : ℕ) → getD m′ (i * markWidth) 0 ≡ getD m (i * markWidth) 0
+  pub ways : (i : ℕ) → getD m′ (i * markWidth + waysWord) 0 ≡ getD m (i * markWidth + waysWord) 0
+  pub end : (i : ℕ) → getD m′ (i * markWidth + endWord) 0 ≡ getD m (i * markWidth + endWord) 0
 
 -- the rows from `from` to `end` are one tree
 pub record TreeRows (w : List ℕ) (from end : ℕ) : Type 0 where

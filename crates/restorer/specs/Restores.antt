@@ -5,6 +5,7 @@ use mathlib.Core.List.{List, [], _∷_}
 use Prim.Native.Nat.{ℕ, _+_, _-_, _*_, _/_, _^_, _≤_, _<_}
 use lib.ListN.{length, getD}
 use lib.Dec.{eqb}
+use Rattle.grammar.specs.Numbers.{ruleWidth, rowWidth, markWidth, kChoice, kOpt, kRep, kPush, kRestoreOnErr}
 use Rattle.grammar.specs.Basic.{Bytes, member}
 use Rattle.grammar.specs.Tree.{Head, Un, Ident, Expr, E, lit, un, unHead}
 use Rattle.grammar.specs.Rows.{Span}
@@ -14,7 +15,9 @@ use Rattle.grammar.specs.Steps.{guarded}
 use Rattle.rows.specs.Rows.{Inside, At as Stands, kindAt, xAt, yAt}
 use Rattle.writing.specs.Writes.{RowPut, Fits, Written}
 use Rattle.writing.specs.declared.Place.{Place}
-use Rattle.names.specs.Names.{Hashed, Finds}
+use Rattle.writing.specs.declared.Wrote.{Wrote}
+use Rattle.writing.specs.declared.Wrote.the-variants.{Done, Full as NoRoom}
+use Rattle.names.specs.Names.{AllIndexed, Finds, endWord}
 use Rattle.chains.specs.Runs.{ups}
 use Rattle.names.specs.declared.Found.{Found}
 use Rattle.names.specs.declared.Found.the-variants.{At, Nothing}
@@ -24,7 +27,7 @@ use Rattle.restorer.specs.declared.Restored.the-variants.{To, Full}
 
 -- Opt, Rep and Choice: what is below gets RestoreOnErr
 abbrev pub isGuard : ℕ → Bool
-isGuard k = eqb k 9 || (eqb k 10 || eqb k 11)
+isGuard k = eqb k kChoice || (eqb k kOpt || eqb k kRep)
 
 unfoldable pub guardedIf : Table Bytes → Bool → E → E
 unfolding guarded
@@ -37,7 +40,7 @@ climbed t (u ∷ us) e = un u (guardedIf t (isGuard (unHead u .0)) (climbed t us
 
 -- what shows through a row of kind k, where b shows below it: all of a Push, nothing of a RestoreOnErr
 abbrev pub showsThrough : ℕ → Bool → Bool
-showsThrough k b = cond (eqb k 18) true (cond (eqb k 19) false b)
+showsThrough k b = cond (eqb k kPush) true (cond (eqb k kRestoreOnErr) false b)
 
 -- what the marks say of a rule that was found
 abbrev pub saysFound : List ℕ → Found → Bool
@@ -46,13 +49,13 @@ saysFound m Nothing = false
 
 -- the marks say of every name whether the stack can change through it
 pub record Sure (t : Table Bytes) (rules : List ℕ) (text : Bytes) (m : List ℕ) : Type 0 where
-  pub name : (key : Bytes) (f : Found) → Finds (length rules / 4) rules text key f → changes t (lit Ident key) ≡ (member key stackNames || saysFound m f)
+  pub name : (key : Bytes) (f : Found) → Finds (length rules / ruleWidth) rules text key f → changes t (lit Ident key) ≡ (member key stackNames || saysFound m f)
 
 -- the table and the marks of a source
 pub record Known (rules marks rows : List ℕ) (text : Bytes) : Type 0 where
   pub table : Table Bytes
   pub sure : Sure table rules text marks
-  pub hashed : Hashed rules text marks
+  pub index : AllIndexed rules text marks
   pub inside : Inside rows (length text)
 
 -- row i, as it was read
@@ -63,13 +66,13 @@ pub record RowIs (w : List ℕ) (i k x y : ℕ) : Type 0 where
 
 -- no row of a tree of n rows up to row i is a RestoreOnErr
 abbrev pub Unset : List ℕ → ℕ → ℕ → Type 0
-Unset w i n = (j : ℕ) → i < j + n → j ≤ i → kindAt w j ≡ 19 → ⊥
+Unset w i n = (j : ℕ) → i < j + n → j ≤ i → kindAt w j ≡ kRestoreOnErr → ⊥
 
 -- the tree whose last row is row `root` is rule i's, through which the stack cannot change
 pub record SettledNo (rules m : List ℕ) (i root : ℕ) : Type 0 where
-  pub below : i < length rules / 4
+  pub below : i < length rules / ruleWidth
   pub no : stateOf m i ≡ 2
-  pub ends : root + 1 ≡ getD m (i * 4 + 3) 0
+  pub ends : root + 1 ≡ getD m (i * markWidth + endWord) 0
 
 -- the tree e stands at p, and b says whether the stack can change through it; or it does not fit
 pub record Shown (q p : Place) (b : Bool) (t : Table Bytes) (e : E) (o o′ l l′ : List ℕ) : Type 0 where
@@ -80,10 +83,19 @@ abbrev pub RestoredAnswer : Restored → Place → Table Bytes → E → (o o′
 RestoredAnswer (To q b) p t e o o′ l l′ = Shown q p b t e o o′ l l′
 RestoredAnswer Full p t e o o′ l l′ = Fits p e o l → ⊥
 
+-- the answer of a writing of which b shows, and the same without what shows
+abbrev pub toldBy : Wrote → Bool → Restored
+toldBy (Done q) b = To q b
+toldBy NoRoom b = Full
+
+abbrev pub wroteBy : Restored → Wrote
+wroteBy (To q b) = Done q
+wroteBy Full = NoRoom
+
 -- a row goes over what stands from p to q
 pub record Over (p q : Place) (o : List ℕ) : Type 0 where
   pub low : p .rows ≤ q .rows
-  pub high : q .rows ≤ length o / 4
+  pub high : q .rows ≤ length o / rowWidth
   pub words : length o < 2 ^ 32
 
 -- its head is h, and c shows through it where b shows below
@@ -93,7 +105,7 @@ pub record NodePut (s p q : Place) (c : Bool) (h : Head) (b : Bool) (o o′ : Li
 
 abbrev pub NodeAnswer : Restored → Place → Place → Head → Bool → (o o′ : List ℕ) → Type 0
 NodeAnswer (To s c) p q h b o o′ = NodePut s p q c h b o o′
-NodeAnswer Full p q h b o o′ = q .rows < length o / 4 → ⊥
+NodeAnswer Full p q h b o o′ = q .rows < length o / rowWidth → ⊥
 
 -- the place that is told is over p too
 abbrev pub OverAnswer : Restored → Place → List ℕ → Type 0

@@ -1,5 +1,5 @@
 -- Searching for a change of the stack through the rules of a table, with a memory for each rule: word 1 of its mark is 0 where the rule was not
--- seen, 2 where the stack cannot change through it, 3 where it can, and 4 + p where the rule is open: its rows are being walked, or lead to a
+-- seen, 2 where the stack cannot change through it, 3 where it can, and OPEN + p where the rule is open: its rows are being walked, or lead to a
 -- rule whose rows are, and it stands at position p among those. Assumes nothing.
 use mathlib.Core.Path.{_≡_}
 use mathlib.Core.Bool.{Bool, true, false, _||_, not, cond}
@@ -8,6 +8,8 @@ use mathlib.Core.Option.{some}
 use Prim.Native.Nat.{ℕ, suc, _+_, _*_, _≤_, _<_}
 use lib.ListN.{length, getD, getElem?}
 use lib.Dec.{eqb, leb}
+use Rattle.names.specs.Names.{memoryWord}
+use Rattle.grammar.specs.Numbers.{markWidth}
 use Rattle.grammar.specs.Basic.{Bytes, sameBytes}
 use Rattle.grammar.specs.Tree.{E}
 use Rattle.grammar.specs.Table.{Rule, Table}
@@ -15,9 +17,13 @@ use Rattle.grammar.specs.Stack.{Reaches, changesIn}
 use Rattle.restorer.specs.declared.Outcome.{Outcome}
 use Rattle.restorer.specs.declared.Outcome.the-variants.{Reached, Silent}
 
+-- the memory of the open rule at position 0
+abbrev pub OPEN : ℕ
+OPEN = 4
+
 -- the memory of rule i in the marks m
 abbrev pub stateOf : List ℕ → ℕ → ℕ
-stateOf m i = getD m (i * 4 + 1) 0
+stateOf m i = getD m (i * markWidth + memoryWord) 0
 
 -- the memory of a name is that of the first rule with that name, where the first rule is numbered i; through a name of no rule nothing changes
 abbrev pub memoryFrom : ℕ → Table Bytes → List ℕ → Bytes → ℕ
@@ -29,7 +35,7 @@ memoryOf t m x = memoryFrom 0 t m x
 
 -- settled as one through which the stack cannot change, or open at position `low` or above
 abbrev pub isQuiet : ℕ → ℕ → Bool
-isQuiet low s = eqb s 2 || leb (4 + low) s
+isQuiet low s = eqb s 2 || leb (OPEN + low) s
 
 abbrev pub loud : Table Bytes → List ℕ → ℕ → Bytes → Bool
 loud t m low x = not (isQuiet low (memoryOf t m x))
@@ -61,12 +67,12 @@ pub record Kept (t : Table Bytes) (m m′ : List ℕ) : Type 0 where
 pub record Searches (t : Table Bytes) (top : ℕ) (m m′ : List ℕ) : Type 0 where
   pub right : Right t m′
   pub kept : Kept t m m′
-  pub was : (i : ℕ) → i < length t → 4 ≤ stateOf m′ i → stateOf m′ i < 4 + top → stateOf m i ≡ stateOf m′ i
-  pub spreads : Reach t m (λ s. 4 ≤ s) → Reach t m′ (λ s. 4 ≤ s)
+  pub was : (i : ℕ) → i < length t → OPEN ≤ stateOf m′ i → stateOf m′ i < OPEN + top → stateOf m i ≡ stateOf m′ i
+  pub spreads : Reach t m (λ s. OPEN ≤ s) → Reach t m′ (λ s. OPEN ≤ s)
 
 -- the rules that it leaves open are quiet
 abbrev pub Closed : Table Bytes → ℕ → List ℕ → List ℕ → Type 0
-Closed t low m m′ = (i : ℕ) (r : Rule Bytes) → getElem? t i ≡ some r → stateOf m i ≡ 0 → 4 ≤ stateOf m′ i → Quiet t m′ low (r .body)
+Closed t low m m′ = (i : ℕ) (r : Rule Bytes) → getElem? t i ≡ some r → stateOf m i ≡ 0 → OPEN ≤ stateOf m′ i → Quiet t m′ low (r .body)
 
 -- the lowest position that was named, where none was
 abbrev pub nowhere : ℕ
@@ -82,7 +88,7 @@ pub record Passing (t : Table Bytes) (top low : ℕ) (m m′ : List ℕ) (Quietl
   pub searches : Searches t top m m′
   pub closed : Closed t low m m′
   pub quiet : Quietly
-  pub leads : low < nowhere → Reach t m′ (λ s. s ≡ 4 + low) → Reaching
+  pub leads : low < nowhere → Reach t m′ (λ s. s ≡ OPEN + low) → Reaching
 
 abbrev pub Answers : Outcome → Table Bytes → ℕ → List ℕ → List ℕ → (ℕ → Type 0) → Type 0 → Type 0
 Answers (Reached high) t top m m′ quietly reaching = Changing t top m m′ reaching

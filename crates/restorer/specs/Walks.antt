@@ -6,6 +6,7 @@ use mathlib.Core.Logic.{_⊎_}
 use Prim.Native.Nat.{ℕ, _+_, _-_, _/_, _≤_, _<_}
 use lib.ListN.{length}
 use lib.Dec.{eqb, leb}
+use Rattle.grammar.specs.Numbers.{ruleWidth, kSkip, kPush, kRestoreOnErr}
 use Rattle.grammar.specs.Basic.{Bytes}
 use Rattle.grammar.specs.Tree.{Expr, E, lit, fixed, skip, un, bin, size, isUn}
 use Rattle.grammar.specs.Rows.{Span}
@@ -13,7 +14,7 @@ use Rattle.grammar.specs.Text.{resolve}
 use Rattle.grammar.specs.Table.{Table}
 use Rattle.grammar.specs.Stack.{Reaches, changesLit}
 use Rattle.rows.specs.Rows.{At}
-use Rattle.restorer.specs.Search.{stateOf, nowhere, loud, Answers, Looked}
+use Rattle.restorer.specs.Search.{OPEN, stateOf, nowhere, loud, Answers, Looked}
 use Rattle.restorer.specs.declared.Outcome.{Outcome}
 use Rattle.restorer.specs.declared.Outcome.the-variants.{Reached, Silent}
 use Rattle.restorer.specs.declared.Step.{Step}
@@ -29,7 +30,7 @@ abbrev pub below : Expr Span → List (Expr Span)
 below (lit k s) = []
 below (fixed f) = []
 below (skip ss) = []
-below (un u e) = cond (isUn 19 u) [] (e ∷ [])
+below (un u e) = cond (isUn kRestoreOnErr u) [] (e ∷ [])
 below (bin b l r) = r ∷ l ∷ []
 
 -- whether the stack can change at a root itself: `look` says whether it can through a name
@@ -37,7 +38,7 @@ abbrev pub changesAt : (Bytes → Bool) → E → Bool
 changesAt look (lit k s) = changesLit look k s
 changesAt look (fixed f) = false
 changesAt look (skip ss) = false
-changesAt look (un u e) = isUn 18 u
+changesAt look (un u e) = isUn kPush u
 changesAt look (bin b l r) = false
 
 abbrev pub pick : Bool → Step → Step → Step
@@ -48,11 +49,11 @@ pick false a b = b
 -- row before
 unfoldable pub stepFrom : ℕ → ℕ → ℕ → Step
 stepFrom k i n =
-    pick (eqb k 18) Changes (pick (eqb k 17) (Next (i + 1 - n) nowhere) (pick (eqb k 19) (Next (i + 1 - n) nowhere) (Next i nowhere)))
+    pick (eqb k kPush) Changes (pick (eqb k kSkip) (Next (i + 1 - n) nowhere) (pick (eqb k kRestoreOnErr) (Next (i + 1 - n) nowhere) (Next i nowhere)))
 
 -- the position that a memory tells
 abbrev pub positionOf : ℕ → ℕ
-positionOf s = cond (leb 4 s) (s - 4) nowhere
+positionOf s = cond (leb OPEN s) (s - OPEN) nowhere
 
 -- the step from row i, which names rule k, whose memory is s: that rule is asked where it was not seen
 unfoldable pub recalled : ℕ → ℕ → ℕ → Step
@@ -78,7 +79,7 @@ GoesOn (Into k) w i r = (i ≤ i) × Run w (i + 1 - size r) i (below r)
 abbrev pub Unseen : Step → List ℕ → List ℕ → Type 0
 Unseen Changes rules m = Unit {0}
 Unseen (Next j low) rules m = Unit {0}
-Unseen (Into k) rules m = (k < length rules / 4) × (stateOf m k ≡ 0)
+Unseen (Into k) rules m = (k < length rules / ruleWidth) × (stateOf m k ≡ 0)
 
 -- the least of two
 pub record Least (r a b : ℕ) : Type 0 where

@@ -1,8 +1,9 @@
-// Restore: whether the stack can change through each rule of a table, and step 7 on a subtree. A rule's memory is word 1 of its mark: 0 not seen, 2 the stack cannot change through it, 3 it can, 4 + p it is open, at position p of the stack of open rules.
+// Restore: whether the stack can change through each rule of a table, and step 7 on a subtree. A rule's memory is word 1 of its mark: 0 not seen, 2 the stack cannot change through it, 3 it can, OPEN + p it is open, at position p of the stack of open rules.
 ghost use mathlib.Core.Path.{_≡_};
 ghost use mathlib.Core.Bool.{true, false, _||_};
 ghost use Prim.Native.Nat.{ℕ, _+_, _-_, _*_, _/_, _^_, _≤_, _<_};
 ghost use lib.ListN.{length, set};
+ghost use Rattle.grammar.specs.Numbers.{ruleWidth, rowWidth, markWidth, kIdent};
 ghost use Rattle.grammar.specs.Tree.{Expr, size};
 ghost use Rattle.grammar.specs.Rows.{Span};
 ghost use Rattle.grammar.specs.Text.{resolve};
@@ -12,17 +13,33 @@ ghost use Rattle.grammar.specs.Basic.{Bytes, member};
 ghost use Rattle.grammar.specs.Text.{bytesAt};
 ghost use Rattle.grammar.specs.Stack.{stackNames, changes};
 ghost use Rattle.grammar.specs.Steps as steps;
-ghost use Rattle.rows.specs.Rows.{Inside, At, Stands, shapeOf, kindAt, xAt, yAt};
+ghost use Rattle.rows.specs.Rows.{Inside, At, Stands, shapeOf, kindAt, xAt, yAt, sizeAt};
 ghost use Rattle.rows.specs.declared.Shape.the-variants.{One, Two};
 ghost use Rattle.writing.specs.Writes.{Room, Answer};
-ghost use Rattle.names.specs.Names.{marked, Hashed};
-ghost use Rattle.restorer.specs.Search.{stateOf, Right, Walked, Looked, RuleSettled};
+ghost use Rattle.names.specs.Names.{marked, AllIndexed, memoryWord};
+ghost use Rattle.restorer.specs.Search.{OPEN, stateOf, Right, Walked, Looked, RuleSettled};
 ghost use Rattle.restorer.specs.Lends.{Lent, Marked, Given, Steady, TreeRows, Settles};
 ghost use Rattle.restorer.specs.Stacks.{Stacked, Searching, Ran, topOf, Left, Within, Closes, Leaves};
 ghost use Rattle.restorer.specs.Walks.{stepFrom, recalled, GoesOn, Visited, Unseen, Least};
-ghost use Rattle.restorer.specs.Restores.{isGuard, showsThrough, SettledNo, guardedIf, Sure, Known, RowIs, Unset, climbed, RestoredAnswer, Over, NodeAnswer, OverAnswer, Becomes, Climbable};
+ghost use Rattle.restorer.specs.Restores.{isGuard, showsThrough, SettledNo, guardedIf, Sure, Known, RowIs, Unset, climbed, toldBy, wroteBy, RestoredAnswer, Over, NodeAnswer, OverAnswer, Becomes, Climbable};
 ghost use Rattle.chains.specs.Runs.{ups};
+use grammar::CHOICE;
+use grammar::IDENT;
+use grammar::MARK_WIDTH;
+use grammar::OPT;
+use grammar::PUSH;
+use grammar::REP;
+use grammar::RESTORE_ON_ERR;
+use grammar::ROW_WIDTH;
+use grammar::ROWS;
+use grammar::RULE_WIDTH;
+use grammar::SIZE;
+use grammar::SKIP;
+use grammar::X;
+use grammar::Y;
+use names::END;
 use names::Found;
+use names::MEMORY;
 use rows::Lookup;
 use rows::Shape;
 use rows::wide;
@@ -34,6 +51,9 @@ const UNSEEN: u32 = 0;
 const NO: u32 = 2;
 
 const YES: u32 = 3;
+
+// the memory of the open rule at position 0
+const OPEN: u32 = 4;
 
 // the lowest position that was named, where none was
 const NOWHERE: usize = 4294967295;
@@ -51,19 +71,27 @@ enum Outcome {
     Silent(usize, usize),
 }
 
+// How many rows the subtree of row i has.
+fn rows_of(rows: &[u32], i: usize) -> usize
+    requires { ⌜ i < length (now rows) / rowWidth ⌝ }
+    ensures { λ n. ⌜ n ≡ sizeAt (now (rows .entry)) i ⌝ }
+{
+    wide(rows[i * ROW_WIDTH + SIZE])
+}
+
 // The step from row i, which is no Ident.
 fn step_from(kind: u32, i: usize, size: usize) -> Step
     requires { ⌜ (size ≤ i + 1) × (i + 1 < 2 ^ 64) ⌝ }
     ensures { λ a. ⌜ a ≡ stepFrom kind i size ⌝ }
 {
-    if kind == 18 {
+    if kind == PUSH {
         return Step::Changes;
     }
-    if kind == 17 {
+    if kind == SKIP {
         return Step::Next(i + 1 - size, NOWHERE);
     }
     // already set: its child is not looked at
-    if kind == 19 {
+    if kind == RESTORE_ON_ERR {
         return Step::Next(i + 1 - size, NOWHERE);
     }
     Step::Next(i, NOWHERE)
@@ -71,34 +99,34 @@ fn step_from(kind: u32, i: usize, size: usize) -> Step
 
 // The step from row i, which names rule k, by that rule's memory.
 fn recall(marks: &[u32], k: usize, i: usize) -> Step
-    requires { ⌜ k * 4 + 1 < length (now marks) ⌝ }
+    requires { ⌜ k * markWidth + memoryWord < length (now marks) ⌝ }
     ensures { λ a. ⌜ a ≡ recalled (stateOf (now (marks .entry)) k) k i ⌝ }
 {
-    let state = marks[k * 4 + 1];
+    let state = marks[k * MARK_WIDTH + MEMORY];
     if state == YES {
         return Step::Changes;
     }
     if state == UNSEEN {
         return Step::Into(k);
     }
-    if state < 4 {
+    if state < OPEN {
         return Step::Next(i, NOWHERE);
     }
-    Step::Next(i, wide(state - 4))
+    Step::Next(i, wide(state - OPEN))
 }
 
 // The step from row i, which is an Ident.
 fn named(rules: &[u32], rows: &[u32], text: &[u8], marks: &[u32], i: usize) -> Step
     requires { ⌜ Given (now rules) (now rows) (now text) (now marks) ⌝ }
-    requires { ⌜ i < length (now rows) / 4 ⌝ }
-    requires { ⌜ kindAt (now rows) i ≡ 3 ⌝ }
+    requires { ⌜ i < length (now rows) / rowWidth ⌝ }
+    requires { ⌜ kindAt (now rows) i ≡ kIdent ⌝ }
     ensures { λ a. ⌜ Unseen a (now (rules .entry)) (now (marks .entry)) ⌝ }
     ensures { λ a. ⌜ ((r : Expr Span) → At (now (rows .entry)) i r → GoesOn a (now (rows .entry)) i r) ⌝ }
     ensures { λ a. ⌜ ((t : Table Span) (r : Expr Span) → Lent t (now (rules .entry)) (now (rows .entry)) → At (now (rows .entry)) i r → Right (resolveTable (now (text .entry)) t) (now (marks .entry)) → Visited a (now (text .entry)) (resolveTable (now (text .entry)) t) (now (marks .entry)) r) ⌝ }
 {
-    let at = i * 4;
-    let x = wide(rows[at + 1]);
-    let n = wide(rows[at + 2]);
+    let at = i * ROW_WIDTH;
+    let x = wide(rows[at + X]);
+    let n = wide(rows[at + Y]);
     if names::changes_stack(text, x, n) {
         return Step::Changes;
     }
@@ -116,10 +144,10 @@ fn visit(rules: &[u32], rows: &[u32], text: &[u8], marks: &[u32], i: usize) -> S
     ensures { λ a. ⌜ ((r : Expr Span) → At (now (rows .entry)) i r → GoesOn a (now (rows .entry)) i r) ⌝ }
     ensures { λ a. ⌜ ((t : Table Span) (r : Expr Span) → Lent t (now (rules .entry)) (now (rows .entry)) → At (now (rows .entry)) i r → Right (resolveTable (now (text .entry)) t) (now (marks .entry)) → Visited a (now (text .entry)) (resolveTable (now (text .entry)) t) (now (marks .entry)) r) ⌝ }
 {
-    let at = i * 4;
+    let at = i * ROW_WIDTH;
     let kind = rows[at];
-    if kind != 3 {
-        return step_from(kind, i, wide(rows[at + 3]));
+    if kind != IDENT {
+        return step_from(kind, i, wide(rows[at + SIZE]));
     }
     named(rules, rows, text, marks, i)
 }
@@ -136,19 +164,19 @@ fn least(a: usize, b: usize) -> usize
 
 // Opens rule i at position `top`.
 fn enter(marks: &mut [u32], stack: &mut [u32], i: usize, top: usize)
-    requires { ⌜ (i * 4 + 1 < length (now marks)) × (i < 2 ^ 30) ⌝ }
+    requires { ⌜ (i * markWidth + memoryWord < length (now marks)) × (i < 2 ^ 30) ⌝ }
     requires { ⌜ (top < length (now stack)) × (top < 2 ^ 30) ⌝ }
-    ensures { λ _. ⌜ now (marks .exit) ≡ set (now (marks .entry)) (i * 4 + 1) (4 + top) ⌝ }
+    ensures { λ _. ⌜ now (marks .exit) ≡ set (now (marks .entry)) (i * markWidth + memoryWord) (OPEN + top) ⌝ }
     ensures { λ _. ⌜ now (stack .exit) ≡ set (now (stack .entry)) top i ⌝ }
 {
-    marks[i * 4 + 1] = (4 + top) as u32;
+    marks[i * MARK_WIDTH + MEMORY] = OPEN + top as u32;
     stack[top] = i as u32;
 }
 
 // Settles the open rules from position `from` to `top` as `to`.
 fn close(marks: &mut [u32], stack: &[u32], from: usize, top: usize, to: u32)
     requires { ⌜ Within (now marks) (now stack) from top ⌝ }
-    requires { ⌜ (1 < to) × (to < 4) ⌝ }
+    requires { ⌜ (1 < to) × (to < OPEN) ⌝ }
     ensures { λ _. ⌜ Steady (now (marks .entry)) (now (marks .exit)) ⌝ }
     ensures { λ _. ⌜ ((n : ℕ) → Stacked n (now (marks .entry)) (now (stack .entry)) top → Closes n (now (marks .entry)) (now (marks .exit)) (now (stack .entry)) from to) ⌝ }
 {
@@ -156,7 +184,7 @@ fn close(marks: &mut [u32], stack: &[u32], from: usize, top: usize, to: u32)
     while from < p {
         p -= 1;
         let i = wide(stack[p]);
-        marks[i * 4 + 1] = to;
+        marks[i * MARK_WIDTH + MEMORY] = to;
     }
 }
 
@@ -189,14 +217,14 @@ fn look(
     top: usize,
 ) -> Outcome
     requires { ⌜ Searching (now rules) (now rows) (now text) (now marks) (now stack) top ⌝ }
-    requires { ⌜ i < length (now rules) / 4 ⌝ }
+    requires { ⌜ i < length (now rules) / ruleWidth ⌝ }
     requires { ⌜ stateOf (now marks) i ≡ 0 ⌝ }
-    ensures { λ a. ⌜ Ran (length (now (rules .entry)) / 4) (now (marks .entry)) (now (marks .exit)) (now (stack .exit)) top (topOf a) ⌝ }
+    ensures { λ a. ⌜ Ran (length (now (rules .entry)) / ruleWidth) (now (marks .entry)) (now (marks .exit)) (now (stack .exit)) top (topOf a) ⌝ }
     ensures { λ a. ⌜ Left a top ⌝ }
     ensures { λ a. ⌜ ((t : Table Span) → Lent t (now (rules .entry)) (now (rows .entry)) → Right (resolveTable (now (text .entry)) t) (now (marks .entry)) → Looked a (resolveTable (now (text .entry)) t) top (now (marks .entry)) (now (marks .exit)) i) ⌝ }
 {
-    let at = i * 4;
-    let end = wide(marks[at + 3]);
+    let at = i * RULE_WIDTH;
+    let end = wide(marks[i * MARK_WIDTH + END]);
     enter(marks, stack, i, top);
     let a = walk(
         rules,
@@ -204,7 +232,7 @@ fn look(
         text,
         marks,
         stack,
-        end - wide(rules[at + 3]),
+        end - wide(rules[at + ROWS]),
         end,
         top + 1,
     );
@@ -224,7 +252,7 @@ fn walk(
 ) -> Outcome
     requires { ⌜ Searching (now rules) (now rows) (now text) (now marks) (now stack) top ⌝ }
     requires { ⌜ TreeRows (now rows) from end ⌝ }
-    ensures { λ a. ⌜ Ran (length (now (rules .entry)) / 4) (now (marks .entry)) (now (marks .exit)) (now (stack .exit)) top (topOf a) ⌝ }
+    ensures { λ a. ⌜ Ran (length (now (rules .entry)) / ruleWidth) (now (marks .entry)) (now (marks .exit)) (now (stack .exit)) top (topOf a) ⌝ }
     ensures { λ a. ⌜ ((t : Table Span) (r : Expr Span) → Lent t (now (rules .entry)) (now (rows .entry)) → At (now (rows .entry)) (end - 1) r → Right (resolveTable (now (text .entry)) t) (now (marks .entry)) → Walked a (resolveTable (now (text .entry)) t) top (now (marks .entry)) (now (marks .exit)) (resolve (now (text .entry)) r)) ⌝ }
 {
     let mut i = end;
@@ -259,12 +287,12 @@ fn walk(
 
 // Forgets what is known of the rules.
 fn forget(marks: &mut [u32], count: usize)
-    requires { ⌜ count * 4 ≤ length (now marks) ⌝ }
+    requires { ⌜ count * markWidth ≤ length (now marks) ⌝ }
     ensures { λ _. ⌜ now (marks .exit) ≡ marked (λ _. 0) 1 count (now (marks .entry)) ⌝ }
 {
     let mut i = 0;
     while i < count {
-        marks[i * 4 + 1] = UNSEEN;
+        marks[i * MARK_WIDTH + MEMORY] = UNSEEN;
         i += 1;
     }
 }
@@ -279,12 +307,12 @@ fn settle_rule(
     i: usize,
 )
     requires { ⌜ Searching (now rules) (now rows) (now text) (now marks) (now stack) 0 ⌝ }
-    requires { ⌜ i < length (now rules) / 4 ⌝ }
+    requires { ⌜ i < length (now rules) / ruleWidth ⌝ }
     ensures { λ _. ⌜ Steady (now (marks .entry)) (now (marks .exit)) ⌝ }
-    ensures { λ _. ⌜ Stacked (length (now (rules .entry)) / 4) (now (marks .exit)) (now (stack .exit)) 0 ⌝ }
+    ensures { λ _. ⌜ Stacked (length (now (rules .entry)) / ruleWidth) (now (marks .exit)) (now (stack .exit)) 0 ⌝ }
     ensures { λ _. ⌜ ((t : Table Span) → Lent t (now (rules .entry)) (now (rows .entry)) → Right (resolveTable (now (text .entry)) t) (now (marks .entry)) → RuleSettled (resolveTable (now (text .entry)) t) (now (marks .entry)) (now (marks .exit)) i) ⌝ }
 {
-    if marks[i * 4 + 1] != UNSEEN {
+    if marks[i * MARK_WIDTH + MEMORY] != UNSEEN {
         return;
     }
     let Outcome::Reached(top) = look(rules, rows, text, marks, stack, i, 0) else {
@@ -297,12 +325,12 @@ fn settle_rule(
 pub fn settle(rules: &[u32], rows: &[u32], text: &[u8], marks: &mut [u32], stack: &mut [u32])
     requires { ⌜ Marked (now rules) (now rows) (now text) (now marks) ⌝ }
     requires { ⌜ length (now rows) < 2 ^ 32 ⌝ }
-    requires { ⌜ length (now rules) / 4 ≤ length (now stack) ⌝ }
+    requires { ⌜ length (now rules) / ruleWidth ≤ length (now stack) ⌝ }
     ensures { λ _. ⌜ Given (now (rules .entry)) (now (rows .entry)) (now (text .entry)) (now (marks .exit)) ⌝ }
     ensures { λ _. ⌜ Settles (now (rules .entry)) (now (rows .entry)) (now (text .entry)) (now (marks .exit)) ⌝ }
 {
     names::mark_ends(rules, marks);
-    let count = rules.len() / 4;
+    let count = rules.len() / RULE_WIDTH;
     forget(marks, count);
     let mut i = 0;
     while i < count {
@@ -314,13 +342,13 @@ pub fn settle(rules: &[u32], rows: &[u32], text: &[u8], marks: &mut [u32], stack
 // Whether the name of row i, which is an Ident, changes the stack by itself.
 fn name_stirs(rows: &[u32], text: &[u8], i: usize) -> bool
     requires { ⌜ Inside (now rows) (length (now text)) ⌝ }
-    requires { ⌜ i < length (now rows) / 4 ⌝ }
-    requires { ⌜ kindAt (now rows) i ≡ 3 ⌝ }
+    requires { ⌜ i < length (now rows) / rowWidth ⌝ }
+    requires { ⌜ kindAt (now rows) i ≡ kIdent ⌝ }
     ensures { λ b. ⌜ b ≡ member (bytesAt (now (text .entry)) (xAt (now (rows .entry)) i, yAt (now (rows .entry)) i)) stackNames ⌝ }
 {
-    let at = i * 4;
-    let x = wide(rows[at + 1]);
-    let n = wide(rows[at + 2]);
+    let at = i * ROW_WIDTH;
+    let x = wide(rows[at + X]);
+    let n = wide(rows[at + Y]);
     names::changes_stack(text, x, n)
 }
 
@@ -329,14 +357,14 @@ pub fn still(rows: &[u32], text: &[u8]) -> bool
     requires { ⌜ Inside (now rows) (length (now text)) ⌝ }
     ensures { λ b. ⌜ (b ≡ true → (t : Table Span) → rowWords t ≡ now (rows .entry) → steps.each (λ _. steps.restore (resolveTable (now (text .entry)) t)) (resolveTable (now (text .entry)) t) ≡ resolveTable (now (text .entry)) t) ⌝ }
 {
-    let count = rows.len() / 4;
+    let count = rows.len() / ROW_WIDTH;
     let mut i = 0;
     while i < count {
-        let k = rows[i * 4];
-        if k == 18 {
+        let k = rows[i * ROW_WIDTH];
+        if k == PUSH {
             return false;
         }
-        if k == 3 {
+        if k == IDENT {
             if name_stirs(rows, text, i) {
                 return false;
             }
@@ -356,23 +384,23 @@ enum Restored {
 fn guards(kind: u32) -> bool
     ensures { λ r. ⌜ r ≡ isGuard kind ⌝ }
 {
-    if kind == 9 {
+    if kind == CHOICE {
         return true;
     }
-    if kind == 10 {
+    if kind == OPT {
         return true;
     }
-    kind == 11
+    kind == REP
 }
 
 // What shows through a row of this kind, where b shows below it.
 fn shows(kind: u32, b: bool) -> bool
     ensures { λ r. ⌜ r ≡ showsThrough kind b ⌝ }
 {
-    if kind == 18 {
+    if kind == PUSH {
         return true;
     }
-    if kind != 19 {
+    if kind != RESTORE_ON_ERR {
         return b;
     }
     false
@@ -388,22 +416,39 @@ fn either(a: bool, b: bool) -> bool
     b
 }
 
+// The answer of a writing of which b shows.
+fn told(a: Wrote, b: bool) -> Restored
+    ensures { λ r. ⌜ r ≡ toldBy a b ⌝ }
+{
+    match a {
+        Wrote::Done(q) => Restored::To(q, b),
+        Wrote::Full => Restored::Full,
+    }
+}
+
+// The same without what shows.
+fn written(a: Restored) -> Wrote
+    ensures { λ r. ⌜ r ≡ wroteBy a ⌝ }
+{
+    match a {
+        Restored::To(q, _) => Wrote::Done(q),
+        Restored::Full => Wrote::Full,
+    }
+}
+
 // Writes a row over what stands from p to q, of which b shows.
 fn node(out: &mut [u32], p: Place, q: Place, kind: u32, x: u32, y: u32, b: bool) -> Restored
     requires { ⌜ Over p q (now out) ⌝ }
     ensures { λ a. ⌜ NodeAnswer a p q (kind, x, y) b (now (out .entry)) (now (out .exit)) ⌝ }
 {
     let n = q.rows - p.rows + 1;
-    let Wrote::Done(s) = writing::put_row(out, q, kind, x, y, n as u32) else {
-        return Restored::Full;
-    };
-    let c = shows(kind, b);
-    Restored::To(s, c)
+    let a = writing::put_row(out, q, kind, x, y, n as u32);
+    told(a, shows(kind, b))
 }
 
 // Whether the stack can change through the name of n bytes at x.
 fn through(rules: &[u32], marks: &[u32], text: &[u8], x: usize, n: usize) -> bool
-    requires { ⌜ Hashed (now rules) (now text) (now marks) ⌝ }
+    requires { ⌜ AllIndexed (now rules) (now text) (now marks) ⌝ }
     requires { ⌜ x + n ≤ length (now text) ⌝ }
     ensures { λ b. ⌜ ((t : Table Bytes) → Sure t (now (rules .entry)) (now (text .entry)) (now (marks .entry)) → b ≡ changes t (tree.lit tree.Ident (bytesAt (now (text .entry)) (x, n)))) ⌝ }
 {
@@ -413,7 +458,19 @@ fn through(rules: &[u32], marks: &[u32], text: &[u8], x: usize, n: usize) -> boo
     let Found::At(i) = names::find_rule(rules, text, marks, text, x, n) else {
         return false;
     };
-    marks[i * 4 + 1] == YES
+    marks[i * MARK_WIDTH + MEMORY] == YES
+}
+
+// Whether the stack can change through a literal of a kind: only through a name.
+fn stirs(rules: &[u32], marks: &[u32], text: &[u8], kind: u32, x: usize, n: usize) -> bool
+    requires { ⌜ AllIndexed (now rules) (now text) (now marks) ⌝ }
+    requires { ⌜ x + n ≤ length (now text) ⌝ }
+    ensures { λ b. ⌜ ((t : Table Bytes) (k : tree.Lit) → Sure t (now (rules .entry)) (now (text .entry)) (now (marks .entry)) → kind ≡ tree.litKind k → b ≡ changes t (tree.lit k (bytesAt (now (text .entry)) (x, n)))) ⌝ }
+{
+    if kind != IDENT {
+        return false;
+    }
+    through(rules, marks, text, x, n)
 }
 
 // Writes a literal at p.
@@ -428,21 +485,15 @@ fn literal(
     lits: &mut [u8],
     p: Place,
 ) -> Restored
-    requires { ⌜ Hashed (now rules) (now text) (now marks) ⌝ }
+    requires { ⌜ AllIndexed (now rules) (now text) (now marks) ⌝ }
     requires { ⌜ x + y ≤ length (now text) ⌝ }
     requires { ⌜ Room p (now out) (now lits) ⌝ }
     ensures { λ a. ⌜ ((t : Table Bytes) (k : tree.Lit) → Sure t (now (rules .entry)) (now (text .entry)) (now (marks .entry)) → kind ≡ tree.litKind k → RestoredAnswer a p t (tree.lit k (bytesAt (now (text .entry)) (x, y))) (now (out .entry)) (now (out .exit)) (now (lits .entry)) (now (lits .exit))) ⌝ }
 {
     let offset = wide(x);
     let n = wide(y);
-    let Wrote::Done(q) = writing::put_lit(text, offset, n, kind, out, lits, p) else {
-        return Restored::Full;
-    };
-    if kind != 3 {
-        return Restored::To(q, false);
-    }
-    let b = through(rules, marks, text, offset, n);
-    Restored::To(q, b)
+    let a = writing::put_lit(text, offset, n, kind, out, lits, p);
+    told(a, stirs(rules, marks, text, kind, offset, n))
 }
 
 // Writes a row of numbers, or a Skip with its strings, at p: nothing shows of it.
@@ -459,10 +510,7 @@ fn plain(
     requires { ⌜ Room p (now out) (now lits) ⌝ }
     ensures { λ a. ⌜ ((t : Table Bytes) (r : Expr Span) → At (now (rows .entry)) root r → changes t (resolve (now (text .entry)) r) ≡ false → RestoredAnswer a p t (resolve (now (text .entry)) r) (now (out .entry)) (now (out .exit)) (now (lits .entry)) (now (lits .exit))) ⌝ }
 {
-    let Wrote::Done(q) = writing::copy(rows, text, root, out, lits, p) else {
-        return Restored::Full;
-    };
-    Restored::To(q, false)
+    told(writing::copy(rows, text, root, out, lits, p), false)
 }
 
 // Puts a RestoreOnErr over what stands from p to q, of which b shows, where `guard` and b say so.
@@ -473,7 +521,7 @@ fn guarded(out: &mut [u32], p: Place, q: Place, b: bool, guard: bool) -> Restore
 {
     if guard {
         if b {
-            return node(out, p, q, 19, 0, 0, b);
+            return node(out, p, q, RESTORE_ON_ERR, 0, 0, b);
         }
     }
     Restored::To(q, b)
@@ -492,7 +540,7 @@ fn over(out: &mut [u32], p: Place, q: Place, kind: u32, x: u32, y: u32, b: bool)
     node(out, p, s, kind, x, y, c)
 }
 
-// Writes the rows after `base` up to `root`, which have one child each, over what stands from p to q, of which b shows.
+// Writes the rows after `base` up to `root`, which have one child each, over what stands from p to q, of which b shows; guarded as `guard` says.
 fn climb(
     rows: &[u32],
     base: usize,
@@ -501,10 +549,11 @@ fn climb(
     p: Place,
     q: Place,
     b: bool,
+    guard: bool,
 ) -> Restored
     requires { ⌜ Climbable (now rows) base root ⌝ }
     requires { ⌜ Over p q (now out) ⌝ }
-    ensures { λ a. ⌜ ((r : Expr Span) → At (now (rows .entry)) root r → Becomes a q p b (λ t e. climbed t (ups r) e) (now (out .entry)) (now (out .exit))) ⌝ }
+    ensures { λ a. ⌜ ((r : Expr Span) → At (now (rows .entry)) root r → Becomes a q p b (λ t e. guardedIf t guard (climbed t (ups r) e)) (now (out .entry)) (now (out .exit))) ⌝ }
 {
     let mut s = q;
     let mut shown = b;
@@ -526,7 +575,7 @@ fn climb(
         s = z;
         shown = c;
     }
-    Restored::To(s, shown)
+    guarded(out, p, s, shown, guard)
 }
 
 // Writes the subtree of row `root`, which has two children, at p.
@@ -548,27 +597,9 @@ fn two(
     ensures { λ a. ⌜ ((t : Table Bytes) (r : Expr Span) → Sure t (now (rules .entry)) (now (text .entry)) (now (marks .entry)) → At (now (rows .entry)) root r → RestoredAnswer a p t (steps.restore t (resolve (now (text .entry)) r)) (now (out .entry)) (now (out .exit)) (now (lits .entry)) (now (lits .exit))) ⌝ }
 {
     let right = root - 1;
-    let Lookup::Row {
-        kind: _,
-        x: _,
-        y: _,
-        size: n,
-    } = rows::row_at(rows, right)
-    else {
-        return Restored::Full;
-    };
+    let left = right - rows_of(rows, right);
     let guard = guards(kind);
-    let Restored::To(q, b) = put(
-        rules,
-        marks,
-        rows,
-        text,
-        right - wide(n),
-        guard,
-        out,
-        lits,
-        p,
-    ) else {
+    let Restored::To(q, b) = put(rules, marks, rows, text, left, guard, out, lits, p) else {
         return Restored::Full;
     };
     let Restored::To(s, c) = put(rules, marks, rows, text, right, guard, out, lits, q) else {
@@ -604,13 +635,14 @@ fn bottom(
     else {
         return Restored::Full;
     };
-    match rows::shape_of(kind) {
-        Shape::Lit => literal(rules, marks, text, kind, x, y, out, lits, p),
-        Shape::Num => plain(rows, text, root, out, lits, p),
-        Shape::One => Restored::Full,
-        Shape::Two => two(rules, marks, rows, text, root, kind, out, lits, p),
-        Shape::Skips => plain(rows, text, root, out, lits, p),
+    let shape = rows::shape_of(kind);
+    if let Shape::Two = shape {
+        return two(rules, marks, rows, text, root, kind, out, lits, p);
     }
+    if let Shape::Lit = shape {
+        return literal(rules, marks, text, kind, x, y, out, lits, p);
+    }
+    plain(rows, text, root, out, lits, p)
 }
 
 // Writes the subtree of row `root` at p, restored, and if `guard` under a RestoreOnErr where the stack can change through it.
@@ -635,22 +667,19 @@ fn put(
     let Restored::To(q, b) = bottom(rules, marks, rows, text, base, out, lits, p) else {
         return Restored::Full;
     };
-    let Restored::To(s, c) = climb(rows, base, root, out, p, q, b) else {
-        return Restored::Full;
-    };
-    guarded(out, p, s, c, guard)
+    climb(rows, base, root, out, p, q, b, guard)
 }
 
 // Whether the stack can change through the name of row i, which is an Ident.
 fn name_alters(rules: &[u32], marks: &[u32], rows: &[u32], text: &[u8], i: usize) -> bool
     requires { ⌜ Known (now rules) (now marks) (now rows) (now text) ⌝ }
-    requires { ⌜ i < length (now rows) / 4 ⌝ }
-    requires { ⌜ kindAt (now rows) i ≡ 3 ⌝ }
+    requires { ⌜ i < length (now rows) / rowWidth ⌝ }
+    requires { ⌜ kindAt (now rows) i ≡ kIdent ⌝ }
     ensures { λ b. ⌜ ((t : Table Bytes) → Sure t (now (rules .entry)) (now (text .entry)) (now (marks .entry)) → b ≡ changes t (tree.lit tree.Ident (bytesAt (now (text .entry)) (xAt (now (rows .entry)) i, yAt (now (rows .entry)) i)))) ⌝ }
 {
-    let at = i * 4;
-    let x = wide(rows[at + 1]);
-    let n = wide(rows[at + 2]);
+    let at = i * ROW_WIDTH;
+    let x = wide(rows[at + X]);
+    let n = wide(rows[at + Y]);
     through(rules, marks, text, x, n)
 }
 
@@ -660,22 +689,13 @@ fn alters(rules: &[u32], marks: &[u32], rows: &[u32], text: &[u8], root: usize) 
     requires { ⌜ Stands (now rows) root ⌝ }
     ensures { λ b. ⌜ (b ≡ false → (t : Table Bytes) (r : Expr Span) → Sure t (now (rules .entry)) (now (text .entry)) (now (marks .entry)) → At (now (rows .entry)) root r → steps.restore t (resolve (now (text .entry)) r) ≡ resolve (now (text .entry)) r) ⌝ }
 {
-    let Lookup::Row {
-        kind: _,
-        x: _,
-        y: _,
-        size,
-    } = rows::row_at(rows, root)
-    else {
-        return true;
-    };
-    let mut i = root + 1 - wide(size);
+    let mut i = root + 1 - rows_of(rows, root);
     while i <= root {
-        let kind = rows[i * 4];
-        if kind == 18 {
+        let kind = rows[i * ROW_WIDTH];
+        if kind == PUSH {
             return true;
         }
-        if kind == 3 {
+        if kind == IDENT {
             if name_alters(rules, marks, rows, text, i) {
                 return true;
             }
@@ -690,18 +710,9 @@ fn unset(rows: &[u32], root: usize) -> bool
     requires { ⌜ Stands (now rows) root ⌝ }
     ensures { λ b. ⌜ (b ≡ true → (r : Expr Span) → At (now (rows .entry)) root r → Unset (now (rows .entry)) root (size r)) ⌝ }
 {
-    let Lookup::Row {
-        kind: _,
-        x: _,
-        y: _,
-        size,
-    } = rows::row_at(rows, root)
-    else {
-        return false;
-    };
-    let mut i = root + 1 - wide(size);
+    let mut i = root + 1 - rows_of(rows, root);
     while i <= root {
-        if rows[i * 4] == 19 {
+        if rows[i * ROW_WIDTH] == RESTORE_ON_ERR {
             return false;
         }
         i += 1;
@@ -711,18 +722,18 @@ fn unset(rows: &[u32], root: usize) -> bool
 
 // What is remembered of rule i, where the subtree of row `root` is its tree.
 fn memory(rules: &[u32], marks: &[u32], i: usize, root: usize) -> u32
-    requires { ⌜ length (now rules) / 4 * 4 ≤ length (now marks) ⌝ }
+    requires { ⌜ length (now rules) / ruleWidth * markWidth ≤ length (now marks) ⌝ }
     requires { ⌜ root + 1 < 2 ^ 64 ⌝ }
     ensures { λ r. ⌜ (r ≡ 2 → SettledNo (now (rules .entry)) (now (marks .entry)) i root) ⌝ }
 {
-    if i >= rules.len() / 4 {
+    if i >= rules.len() / RULE_WIDTH {
         return UNSEEN;
     }
-    let at = i * 4;
-    if wide(marks[at + 3]) != root + 1 {
+    let at = i * MARK_WIDTH;
+    if wide(marks[at + END]) != root + 1 {
         return UNSEEN;
     }
-    marks[at + 1]
+    marks[at + MEMORY]
 }
 
 // Whether the marks or the rows show that restoring the subtree of row `root` leaves it as it is.
@@ -768,8 +779,5 @@ pub fn restore(
     if stays(rules, marks, rows, text, i, root) {
         return writing::copy(rows, text, root, out, lits, p);
     }
-    let Restored::To(q, _) = put(rules, marks, rows, text, root, false, out, lits, p) else {
-        return Wrote::Full;
-    };
-    Wrote::Done(q)
+    written(put(rules, marks, rows, text, root, false, out, lits, p))
 }

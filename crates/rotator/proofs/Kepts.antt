@@ -1,10 +1,11 @@
 -- A subtree that was read is rotated by what its parts' calls answer. Assumes nothing.
 use mathlib.Core.Path.{_≡_, refl, sym, ap, subst, _∙_}
 use mathlib.Core.List.{List, [], _∷_, _++_, append-assoc, append-nil}
-use Prim.Native.Nat.{ℕ, _+_, _-_, _*_, _/_, _≤_, _<_}
+use Prim.Native.Nat.{ℕ, _+_, _-_, _*_, _/_, _≤_}
 use native.Mathlib.Omega.{arith}
 use lib.ListN.{length, take, length-append}
 use lib.Seq.{length-take-le}
+use Rattle.grammar.specs.Numbers.{rowWidth}
 use Rattle.grammar.specs.Basic.{Bytes}
 use borrow.Author.Tests.{eq-eqb, ne-eqb}
 use Rattle.grammar.specs.Tree.{E, Expr, Bin, Seq, Choice, lit, fixed, skip, un, bin, binKind, size}
@@ -84,13 +85,13 @@ module _ {s p : Place} {es : List E} {o o₁ t t₁ : List ℕ} (w : KeptAll s p
       ap flats (ap (packs (p .text)) (z .is) ∙ packs-append (p .text) (z .init) (z .last ∷ [])) ∙ flats-append (packs (p .text) (z .init)) (packed last-text (z .last) ∷ [])
       ∙ rw (append-nil (flat (packed last-text (z .last))))
 
-  pub all-forest : p .rows ≤ length o / 4 → Forest o₁ (s .rows) (take (p .rows * 4) o) (packs (p .text) (z .init)) (packed last-text (z .last))
+  pub all-forest : p .rows ≤ length o / rowWidth → Forest o₁ (s .rows) (take (p .rows * rowWidth) o) (packs (p .text) (z .init)) (packed last-text (z .last))
   all-forest h = record {
     words = w .words ∙ rw flats-all;
-    place = omega (arith, w .rows, sizes-all, length-take-le (p .rows * 4) o (omega arith), sizes-packs (p .text) (z .init), size-packed last-text (z .last));
+    place = omega (arith, w .rows, sizes-all, length-take-le (p .rows * rowWidth) o (omega arith), sizes-packs (p .text) (z .init), size-packed last-text (z .last));
   }
 
-  pub all-closed : p .rows ≤ length o / 4 → s .rows + length (z .init) ≤ length o₁ / 4 → (a : Wrote) (b : Bin) (o₂ : List ℕ)
+  pub all-closed : p .rows ≤ length o / rowWidth → s .rows + length (z .init) ≤ length o₁ / rowWidth → (a : Wrote) (b : Bin) (o₂ : List ℕ)
       → ClosedAnswer a s b (packs (p .text) (z .init)) (packed last-text (z .last)) o₁ o₂ → KeptAnswer a p (chain b (z .init) (z .last)) o o₂ t t₁
   all-closed h l Full b o₂ c = c
   all-closed h l (Done q) b o₂ c =
@@ -172,22 +173,22 @@ module _ (t : Bytes) {w : List ℕ} {i k x y n : ℕ} {r : Expr Span} (v : TwoVi
     rows-missing =
         omega (arith, both-all .rows, members-size (v .op) node, ap length (ends .is), length-append (ends .init) (ends .last ∷ []), v .rows, size-resolve t (v .left), size-resolve t (v .right))
 
-    pub count-missing : length (packs (p .text) (ends .init)) ≡ p .rows + n - s .rows
-    count-missing = length-packs (p .text) (ends .init) ∙ omega (arith, rows-missing)
+    pub count-missing : (m : ℕ) → m ≡ n → length (packs (p .text) (ends .init)) ≡ p .rows + m - s .rows
+    count-missing m e = length-packs (p .text) (ends .init) ∙ omega (arith, rows-missing)
 
-    pub two-forest : Forest o₂ (s .rows) (take (p .rows * 4) o) (packs (p .text) (ends .init)) (packed (last-text both-all ends) (ends .last))
+    pub two-forest : Forest o₂ (s .rows) (take (p .rows * rowWidth) o) (packs (p .text) (ends .init)) (packed (last-text both-all ends) (ends .last))
     two-forest = all-forest both-all ends (omega (arith, node-fits .rows))
 
-    room : length o₂ ≡ length o → s .rows + length (ends .init) ≤ length o₂ / 4
+    room : length o₂ ≡ length o → s .rows + length (ends .init) ≤ length o₂ / rowWidth
     room lo = omega (arith, rows-missing, node-fits .rows, v .rows, size-resolve t (v .left), size-resolve t (v .right))
 
-    pub two-closable : length o₂ ≡ length o → Areas o u → Closable o₂ (s .rows) (p .rows + n - s .rows)
-    two-closable lo a = record {
-      before = take (p .rows * 4) o;
+    pub two-closable : (m : ℕ) → m ≡ n → length o₂ ≡ length o → Areas o u → Closable o₂ (s .rows) (p .rows + m - s .rows)
+    two-closable m e lo a = record {
+      before = take (p .rows * rowWidth) o;
       trees = packs (p .text) (ends .init);
       tree = packed (last-text both-all ends) (ends .last);
       forest = two-forest;
-      count = count-missing;
+      count = count-missing m e;
       room = omega (arith, room lo, rows-missing);
       words = omega (arith, a .words);
     }

@@ -1,4 +1,4 @@
 -- Laws of rotation.
 pub mod Rotations
 pub mod Kepts
-mod Quiets
+pub mod Quiets

@@ -5,6 +5,7 @@ use mathlib.Core.List.{List, [], _∷_, _++_}
 use Prim.Native.Nat.{ℕ, _+_, _*_}
 use lib.ListN.{length, take}
 use lib.Dec.{eqb}
+use Rattle.grammar.specs.Numbers.{rowWidth, kSeq, kChoice}
 use Rattle.grammar.specs.Tree.{Bin, Seq, Choice, E, lit, fixed, skip, un, bin}
 use Rattle.grammar.specs.Steps.{rotate}
 use Rattle.writing.specs.declared.Place.{Place}
@@ -25,7 +26,7 @@ members Choice (bin Choice l r) = members Choice l ++ members Choice r
 
 -- the same by a node's kind word: 8 is Seq, 9 is Choice, and no chain has another
 unfoldable pub membersOf : ℕ → E → List E
-membersOf k e = cond (eqb k 8) (members Seq e) (cond (eqb k 9) (members Choice e) (rotate e ∷ []))
+membersOf k e = cond (eqb k kSeq) (members Seq e) (cond (eqb k kChoice) (members Choice e) (rotate e ∷ []))
 
 -- the chain's kind word at the row `base` below a run that ends at `root`: a node over others of one child is in no chain
 unfoldable pub chainAt : ℕ → ℕ → ℕ → ℕ
@@ -35,7 +36,7 @@ chainAt k base root = cond (eqb base root) k 0
 pub record KeptAll (q p : Place) (es : List E) (o o′ t t′ : List ℕ) : Type 0 where
   pub rows : q .rows ≡ p .rows + sizes es
   pub text : q .text ≡ p .text + length (texts es)
-  pub words : take (q .rows * 4) o′ ≡ take (p .rows * 4) o ++ flats (packs (p .text) es)
+  pub words : take (q .rows * rowWidth) o′ ≡ take (p .rows * rowWidth) o ++ flats (packs (p .text) es)
   pub bytes : take (q .text) t′ ≡ take (p .text) t ++ texts es
 
 -- never full: the tree that they are read from fits

@@ -9,6 +9,7 @@ use borrow.Author.Tests.{eqb-true, eqb-false}
 use lib.Dec.{eqb}
 use lib.ListN.{length, getD, length-append, length-map}
 use lib.Seq.{ext-getD}
+use Rattle.grammar.specs.Numbers.{rowWidth}
 use Rattle.grammar.specs.Basic.{Bytes, holds, bytes-discrete, sameBytes}
 use Rattle.grammar.specs.Tree as tree
 use Rattle.grammar.specs.Tree.{Head, Str, Insens, Ident, Fixed, Range, PeekSlice, PeekFrom, Un, PosPred, NegPred, Opt, Rep, RepOnce, Push, RestoreOnErr, RepExact, RepMin, RepMax, RepMinMax, Bin, Seq, Choice, Expr, lit, fixed, skip, un, bin, E, litKind, fixedHead, unHead, binKind, size, same-discrete, same}
@@ -254,30 +255,30 @@ module _ (t : Bytes) where
   group-flat (un u e) ws = rw append-assoc (group-flat e _ ∙ rw (un-shape u) (simp append-assoc))
   group-flat (bin b l r) ws = simp append-assoc (group-flat l _ ∙ ap (λ (c : List Cell). cells (resolve t l) ++ c) (group-flat r _ ∙ rw (bin-shape b)))
 
-  group-at : (k : ℕ) (ws : List ℕ) (d : Cell) → k * 4 + 3 < length ws → getD (group ws) k d ≡ cellOf t (getD ws (k * 4) 0) (getD ws (k * 4 + 1) 0) (getD ws (k * 4 + 2) 0)
+  group-at : (k : ℕ) (ws : List ℕ) (d : Cell) → k * rowWidth + 3 < length ws → getD (group ws) k d ≡ cellOf t (getD ws (k * rowWidth) 0) (getD ws (k * rowWidth + 1) 0) (getD ws (k * rowWidth + 2) 0)
   group-at k [] d h = absurd (omega arith)
   group-at k (k₁ ∷ []) d h = absurd (omega arith)
   group-at k (k₁ ∷ x ∷ []) d h = absurd (omega arith)
   group-at k (k₁ ∷ x ∷ y ∷ []) d h = absurd (omega arith)
   group-at zero (k₁ ∷ x ∷ y ∷ n ∷ ws) d h = refl
   group-at (suc k) (k₁ ∷ x ∷ y ∷ n ∷ ws) d h =
-      let e : suc k * 4 ≡ suc (suc (suc (suc (k * 4)))) = omega arith in
-      let e₁ : suc k * 4 + 1 ≡ suc (suc (suc (suc (k * 4 + 1)))) = omega arith in
-      let e₂ : suc k * 4 + 2 ≡ suc (suc (suc (suc (k * 4 + 2)))) = omega arith in
+      let e : suc k * rowWidth ≡ suc (suc (suc (suc (k * rowWidth)))) = omega arith in
+      let e₁ : suc k * rowWidth + 1 ≡ suc (suc (suc (suc (k * rowWidth + 1)))) = omega arith in
+      let e₂ : suc k * rowWidth + 2 ≡ suc (suc (suc (suc (k * rowWidth + 2)))) = omega arith in
       rw (e₁, e₂, e) (group-at k ws d (omega arith))
 
   -- the cells of a tree that stands in the words are those of its rows
   cells-at : {w : List ℕ} {i : ℕ} {r : Expr Span} → At w i r → (k : ℕ) (d : Cell) → k < size r → getD (cells (resolve t r)) k d ≡ cellAt t w (i + 1 - size r + k)
   unfolding cellAt kindAt xAt yAt
   cells-at {w} {i} {r} a k d h =
-      let g : getD (group (flat r)) k d ≡ cellOf t (getD (flat r) (k * 4) 0) (getD (flat r) (k * 4 + 1) 0) (getD (flat r) (k * 4 + 2) 0) = group-at k (flat r) d (omega (arith, length-flat r)) in
+      let g : getD (group (flat r)) k d ≡ cellOf t (getD (flat r) (k * rowWidth) 0) (getD (flat r) (k * rowWidth + 1) 0) (getD (flat r) (k * rowWidth + 2) 0) = group-at k (flat r) d (omega (arith, length-flat r)) in
       let f : group (flat r) ≡ cells (resolve t r) = ap group (sym (append-nil (flat r))) ∙ group-flat r [] ∙ append-nil _ in
-      let e : (i + 1 - size r + k) * 4 ≡ (i + 1 - size r) * 4 + k * 4 = omega arith in
-      let e₁ : (i + 1 - size r + k) * 4 + 1 ≡ (i + 1 - size r) * 4 + (k * 4 + 1) = omega arith in
-      let e₂ : (i + 1 - size r + k) * 4 + 2 ≡ (i + 1 - size r) * 4 + (k * 4 + 2) = omega arith in
-      let w₀ : kindAt w (i + 1 - size r + k) ≡ getD (flat r) (k * 4) 0 = rw e (flat-at a (k * 4) (omega arith)) in
-      let w₁ : xAt w (i + 1 - size r + k) ≡ getD (flat r) (k * 4 + 1) 0 = rw e₁ (flat-at a (k * 4 + 1) (omega arith)) in
-      let w₂ : yAt w (i + 1 - size r + k) ≡ getD (flat r) (k * 4 + 2) 0 = rw e₂ (flat-at a (k * 4 + 2) (omega arith)) in
+      let e : (i + 1 - size r + k) * rowWidth ≡ (i + 1 - size r) * rowWidth + k * rowWidth = omega arith in
+      let e₁ : (i + 1 - size r + k) * rowWidth + 1 ≡ (i + 1 - size r) * rowWidth + (k * rowWidth + 1) = omega arith in
+      let e₂ : (i + 1 - size r + k) * rowWidth + 2 ≡ (i + 1 - size r) * rowWidth + (k * rowWidth + 2) = omega arith in
+      let w₀ : kindAt w (i + 1 - size r + k) ≡ getD (flat r) (k * rowWidth) 0 = rw e (flat-at a (k * rowWidth) (omega arith)) in
+      let w₁ : xAt w (i + 1 - size r + k) ≡ getD (flat r) (k * rowWidth + 1) 0 = rw e₁ (flat-at a (k * rowWidth + 1) (omega arith)) in
+      let w₂ : yAt w (i + 1 - size r + k) ≡ getD (flat r) (k * rowWidth + 2) 0 = rw e₂ (flat-at a (k * rowWidth + 2) (omega arith)) in
       rw (w₀, w₁, w₂, ← f) g
 
 -- two trees, each in its own table, are equal exactly when they have as many rows, and those agree one by one

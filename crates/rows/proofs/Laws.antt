@@ -10,6 +10,7 @@ use borrow.Author.Tests.{lt-ltb, ltb-true, eqb-true, eqb-false}
 use lib.Dec.{ltb, eqb}
 use lib.ListN.{length, getD, length-append, length-take, length-drop, List·getD-append}
 use lib.Seq.{getD-append-add, getD-take, getD-drop, ext-getD}
+use Rattle.grammar.specs.Numbers.{rowWidth}
 use Rattle.grammar.specs.Tree.{Head, Str, Un, Bin, litKind, fixedHead, unHead, binKind, Expr, lit, fixed, skip, un, bin, size}
 use Rattle.grammar.specs.Rows.{Span, row, strRows, flat}
 use Rattle.grammar.specs.Text.{bytesAt}
@@ -41,11 +42,11 @@ flat-root (skip ss) = refl
 flat-root (un u e) = refl
 flat-root (bin b l r) = sym (append-assoc (flat l) (flat r) _)
 
-pub length-strRows : (ss : List Span) → length (strRows ss) ≡ length ss * 4
+pub length-strRows : (ss : List Span) → length (strRows ss) ≡ length ss * rowWidth
 length-strRows [] = refl
 length-strRows (s ∷ ss) = omega (arith, length-strRows ss)
 
-pub length-flat : (r : Expr Span) → length (flat r) ≡ size r * 4
+pub length-flat : (r : Expr Span) → length (flat r) ≡ size r * rowWidth
 length-flat (lit k s) = refl
 length-flat (fixed f) = refl
 length-flat (skip ss) = simp length-append (omega (arith, length-strRows ss))
@@ -66,7 +67,7 @@ pub record Root (w : List ℕ) (i : ℕ) (r : Expr Span) : Type 0 where
   pub x : xAt w i ≡ headOf r .1
   pub y : yAt w i ≡ headOf r .2
   pub rows : sizeAt w i ≡ size r
-  pub inside : i < length w / 4
+  pub inside : i < length w / rowWidth
   pub least : 1 ≤ size r
   pub most : size r ≤ i + 1
 
@@ -80,13 +81,13 @@ module _ {w : List ℕ} {i : ℕ} {r : Expr Span} (a : At w i r) where
   split : w ≡ front ++ (root-row ++ a .after)
   split = a .whole ∙ rw (flat-root r) (simp append-assoc)
 
-  length-front : length front ≡ i * 4
+  length-front : length front ≡ i * rowWidth
   length-front =
-      let e : length (below r) + 4 ≡ size r * 4 = sym (length-append (below r) root-row) ∙ ap length (sym (flat-root r)) ∙ length-flat r in
+      let e : length (below r) + rowWidth ≡ size r * rowWidth = sym (length-append (below r) root-row) ∙ ap length (sym (flat-root r)) ∙ length-flat r in
       omega (arith, length-append (a .before) (below r), a .place)
 
-  word : (n : ℕ) → getD w (i * 4 + n) 0 ≡ getD (root-row ++ a .after) n 0
-  word n = subst (λ (v : List ℕ). getD v (i * 4 + n) 0 ≡ getD (root-row ++ a .after) n 0) (sym split)
+  word : (n : ℕ) → getD w (i * rowWidth + n) 0 ≡ getD (root-row ++ a .after) n 0
+  word n = subst (λ (v : List ℕ). getD v (i * rowWidth + n) 0 ≡ getD (root-row ++ a .after) n 0) (sym split)
       (subst (λ (m : ℕ). getD (front ++ (root-row ++ a .after)) (m + n) 0 ≡ getD (root-row ++ a .after) n 0) length-front
       (getD-append-add front (root-row ++ a .after) n 0))
 
@@ -94,7 +95,7 @@ module _ {w : List ℕ} {i : ℕ} {r : Expr Span} (a : At w i r) where
   pub root : Root w i r
   unfolding kindAt xAt yAt sizeAt
   root = record {
-    kind = subst (λ (m : ℕ). getD w m 0 ≡ headOf r .0) (add-zero (i * 4)) (word 0);
+    kind = subst (λ (m : ℕ). getD w m 0 ≡ headOf r .0) (add-zero (i * rowWidth)) (word 0);
     x = word 1;
     y = word 2;
     rows = word 3;
@@ -150,37 +151,37 @@ at-others {w} {j} {s} {ss} a = record {
 }
 
 -- some strings lie in the table
-pub strs-inside : {w : List ℕ} {j : ℕ} {ss : List Span} → AtStrs w j ss → j + length ss ≤ length w / 4
+pub strs-inside : {w : List ℕ} {j : ℕ} {ss : List Span} → AtStrs w j ss → j + length ss ≤ length w / rowWidth
 strs-inside {w} {j} {ss} a =
     let n : length w ≡ length (a .before) + (length (strRows ss) + length (a .after)) = ap length (a .whole) ∙ simp length-append in
     omega (arith, a .place, length-strRows ss)
 
 -- a tree's words, found in the table
-pub flat-at : {w : List ℕ} {i : ℕ} {r : Expr Span} → At w i r → (n : ℕ) → n < size r * 4 → getD w ((i + 1 - size r) * 4 + n) 0 ≡ getD (flat r) n 0
+pub flat-at : {w : List ℕ} {i : ℕ} {r : Expr Span} → At w i r → (n : ℕ) → n < size r * rowWidth → getD w ((i + 1 - size r) * rowWidth + n) 0 ≡ getD (flat r) n 0
 flat-at {w} {i} {r} a n h =
-    let e : (i + 1 - size r) * 4 ≡ length (a .before) = omega (arith, a .place) in
+    let e : (i + 1 - size r) * rowWidth ≡ length (a .before) = omega (arith, a .place) in
     let l : n < length (flat r) = omega (arith, length-flat r) in
     rw (e, a .whole, getD-append-add) (List·getD-append (flat r) (a .after) 0 n l)
 
 -- ---- what a lookup found
 
 pub record Found (w : List ℕ) (i k a b n : ℕ) : Type 0 where
-  pub within : i < length w / 4
+  pub within : i < length w / rowWidth
   pub kind : kindAt w i ≡ k
   pub x : xAt w i ≡ a
   pub y : yAt w i ≡ b
   pub rows : sizeAt w i ≡ n
 
 -- a row that is there
-pub found-row : (w : List ℕ) (i : ℕ) → i < length w / 4 → Found w i (kindAt w i) (xAt w i) (yAt w i) (sizeAt w i)
+pub found-row : (w : List ℕ) (i : ℕ) → i < length w / rowWidth → Found w i (kindAt w i) (xAt w i) (yAt w i) (sizeAt w i)
 found-row w i h = record { within = h; kind = refl; x = refl; y = refl; rows = refl }
 
 -- a row that was read
 pub row-found : {w : List ℕ} {i k x y n : ℕ} → rowAt w i ≡ Row k x y n → Found w i k x y n
 unfolding rowAt
-row-found {w} {i} {k} {x} {y} {n} e = go (ltb i (length w / 4)) refl
+row-found {w} {i} {k} {x} {y} {n} e = go (ltb i (length w / rowWidth)) refl
   where
-    go : (b : Bool) → ltb i (length w / 4) ≡ b → Found w i k x y n
+    go : (b : Bool) → ltb i (length w / rowWidth) ≡ b → Found w i k x y n
     go true t =
         let q : Row (kindAt w i) (xAt w i) (yAt w i) (sizeAt w i) ≡ Row k x y n = rw t at e in
         record { within = ltb-true _ _ t; kind = cc; x = cc; y = cc; rows = cc }
@@ -190,7 +191,7 @@ row-found {w} {i} {k} {x} {y} {n} e = go (ltb i (length w / 4)) refl
         absurd (omega arith)
 
 -- a row of the table is found
-pub row-there : (w : List ℕ) (i : ℕ) → i < length w / 4 → rowAt w i ≡ Refused → ⊥
+pub row-there : (w : List ℕ) (i : ℕ) → i < length w / rowWidth → rowAt w i ≡ Refused → ⊥
 unfolding rowAt
 row-there w i h e =
     let q : rowAt w i ≡ Row (kindAt w i) (xAt w i) (yAt w i) (sizeAt w i) = simp (lt-ltb _ _ h) in

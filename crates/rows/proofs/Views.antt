@@ -1,20 +1,23 @@
 -- What a row that was read at a tree's root says of the tree: by the shape of its kind, by its kind, and by the views of trees. Assumes nothing.
 use mathlib.Core.Path.{_≡_, refl, sym, ap, _∙_}
+use mathlib.Core.Bool.{Bool, true, false}
 use mathlib.Core.List.{List, [], _∷_}
 use mathlib.Core.Option.{none, some}
-use Prim.Native.Nat.{ℕ, _+_, _-_, _≤_}
+use Prim.Native.Nat.{ℕ, _+_, _-_, _/_, _≤_}
 use native.Mathlib.Omega.{arith}
-use borrow.Author.Tests.{eq-eqb, ne-eqb}
+use borrow.Author.Tests.{eq-eqb, ne-eqb, eqb-true, eqb-false}
+use lib.Dec.{eqb}
 use lib.ListN.{length}
+use Rattle.grammar.specs.Numbers.{kPair}
 use Rattle.grammar.specs.Basic.{Bytes}
 use Rattle.grammar.specs.Tree as tree
-use Rattle.grammar.specs.Tree.{Fixed, Un, Bin, Expr, lit, fixed, skip, un, bin, litKind, fixedHead, unHead, binKind, size, litAt, unAt, binAt}
+use Rattle.grammar.specs.Tree.{Fixed, Un, Bin, Seq, Choice, Expr, lit, fixed, skip, un, bin, litKind, fixedHead, unHead, binKind, size, litAt, unAt, binAt}
 use Rattle.grammar.specs.Rows.{Span}
 use Rattle.grammar.specs.Text.{bytesAt, resolve}
 use Rattle.rows.specs.declared.Shape.{Shape}
 use Rattle.rows.specs.declared.Shape.the-variants.{Lit, Num, One, Two, Skips}
-use Rattle.rows.specs.Rows.{At, AtStrs, shapeOf}
-use Rattle.rows.proofs.Laws.{headOf, root, Found, root-found, found-size, at-un, at-left, at-right, at-strs, at-first, at-others, size-pos}
+use Rattle.rows.specs.Rows.{kindAt, xAt, yAt, sizeAt, At, AtStrs, shapeOf}
+use Rattle.rows.proofs.Laws.{headOf, root, Found, found-row, root-found, found-size, at-un, at-left, at-right, at-strs, at-first, at-others, size-pos}
 use Rattle.rows.proofs.Cells.{lit-shape, fixed-shape, un-shape, bin-shape, skip-shape, lit-same, fixed-same, un-same, bin-same}
 
 -- ---- by shape: the row k, x, y, n was read at the root of r, at row i of w
@@ -154,6 +157,44 @@ left-at v m e = rw e (v .atLeft)
 
 pub strs-at : {w : List ℕ} {i k x y n : ℕ} {r : Expr Span} (v : SkipView w i k x y n r) → AtStrs w (i - x) (v .strings)
 strs-at v = rw (v .count) (v .at)
+
+-- ---- by half a kind: the rows of kind 8 and 9 are those with two children
+
+pub bin-half : (b : Bin) {k : ℕ} → k ≡ binKind b → k / 2 ≡ kPair
+bin-half Seq e = rw e
+bin-half Choice e = rw e
+
+half-shape : (k : ℕ) → k / 2 ≡ kPair → shapeOf k ≡ Two
+half-shape k h = go (eqb k 8) refl
+  where
+    go : (b : Bool) → eqb k 8 ≡ b → shapeOf k ≡ Two
+    go true e = ap shapeOf (eqb-true k 8 e) ∙ bin-shape Seq
+    go false e = let z : k ≡ 9 = omega (arith, eqb-false k 8 e) in ap shapeOf z ∙ bin-shape Choice
+
+module _ {w : List ℕ} {i : ℕ} {r : Expr Span} where
+  -- the two sides of such a row, where they stand (the left one as `left_of` says it), and their sizes
+  pub as-pair : At w i r → kindAt w i / 2 ≡ kPair → TwoView w i (kindAt w i) (xAt w i) (yAt w i) (sizeAt w i) r
+  as-pair a h = as-two (found-row w i (root a .inside)) a (half-shape (kindAt w i) h)
+
+  pub pair-left : {k x y n l : ℕ} (v : TwoView w i k x y n r) → l ≡ i - 1 - sizeAt w (i - 1) → At w l (v .left)
+  pair-left v e = rw e (left-at v _ (root (v .atRight) .rows))
+
+  pub not-pair : At w i r → (kindAt w i / 2 ≡ kPair → ⊥) → shapeIn r ≡ Two → ⊥
+  not-pair a h e = let v = as-two (root-found a) a (shape-in r ∙ e) in h (bin-half (v .op) (root a .kind ∙ v .kind))
+
+-- the same at a row of the kind of b
+pub record SidesAt (b : Bin) (w : List ℕ) (i l : ℕ) (r : Expr Span) : Type 0 where
+  pub left : Expr Span
+  pub right : Expr Span
+  pub is : r ≡ bin b left right
+  pub some : 1 ≤ i
+  pub atLeft : At w l left
+  pub atRight : At w (i - 1) right
+
+pub sides-at : (b : Bin) {w : List ℕ} {i l : ℕ} {r : Expr Span} → At w i r → kindAt w i ≡ binKind b → l ≡ i - 1 - sizeAt w (i - 1) → SidesAt b w i l r
+sides-at b a h e =
+    let v = as-pair a (bin-half b h) in
+    record { left = v .left; right = v .right; is = v .is ∙ rw (bin-same (v .op) b (sym (v .kind) ∙ h)); some = omega (arith, v .leastLeft, v .most); atLeft = pair-left v e; atRight = v .atRight }
 
 -- ---- by kind: the tag of the tree is the one that has the row's words
 

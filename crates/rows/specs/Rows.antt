@@ -5,6 +5,7 @@ use mathlib.Core.List.{List, [], _∷_, _++_}
 use Prim.Native.Nat.{ℕ, _+_, _*_, _/_, _<_, _≤_}
 use lib.ListN.{length, getD}
 use lib.Dec.{ltb, eqb}
+use Rattle.grammar.specs.Numbers.{rowWidth, kRange, kIdent, kPosPred, kSeq, kChoice, kSkip}
 use Rattle.grammar.specs.Basic.{Bytes}
 use Rattle.grammar.specs.Tree.{Expr, lit, fixed, skip, un, bin, size}
 use Rattle.grammar.specs.Rows.{Span, strRows, flat}
@@ -16,16 +17,16 @@ use Rattle.rows.specs.declared.Shape.the-variants.{Lit, Num, One, Two, S
 
 -- the four words of row i
 unfoldable pub kindAt : List ℕ → ℕ → ℕ
-kindAt w i = getD w (i * 4) 0
+kindAt w i = getD w (i * rowWidth) 0
 
 unfoldable pub xAt : List ℕ → ℕ → ℕ
-xAt w i = getD w (i * 4 + 1) 0
+xAt w i = getD w (i * rowWidth + 1) 0
 
 unfoldable pub yAt : List ℕ → ℕ → ℕ
-yAt w i = getD w (i * 4 + 2) 0
+yAt w i = getD w (i * rowWidth + 2) 0
 
 unfoldable pub sizeAt : List ℕ → ℕ → ℕ
-sizeAt w i = getD w (i * 4 + 3) 0
+sizeAt w i = getD w (i * rowWidth + 3) 0
 
 abbrev pub pickLookup : Bool → Lookup → Lookup → Lookup
 pickLookup true a b = a
@@ -33,21 +34,21 @@ pickLookup false a b = b
 
 -- row i, where all four of its words are there
 unfoldable pub rowAt : List ℕ → ℕ → Lookup
-rowAt w i = pickLookup (ltb i (length w / 4)) (Row (kindAt w i) (xAt w i) (yAt w i) (sizeAt w i)) Refused
+rowAt w i = pickLookup (ltb i (length w / rowWidth)) (Row (kindAt w i) (xAt w i) (yAt w i) (sizeAt w i)) Refused
 
 -- the tree r stands in the words, with its root at row i
 pub record At (w : List ℕ) (i : ℕ) (r : Expr Span) : Type 0 where
   pub before : List ℕ
   pub after : List ℕ
   pub whole : w ≡ before ++ (flat r ++ after)
-  pub place : length before + size r * 4 ≡ i * 4 + 4
+  pub place : length before + size r * rowWidth ≡ i * rowWidth + rowWidth
 
 -- the Str rows of the strings ss stand in the words from row j on
 pub record AtStrs (w : List ℕ) (j : ℕ) (ss : List Span) : Type 0 where
   pub before : List ℕ
   pub after : List ℕ
   pub whole : w ≡ before ++ (strRows ss ++ after)
-  pub place : length before ≡ j * 4
+  pub place : length before ≡ j * rowWidth
 
 -- some tree stands there
 pub record Stands (w : List ℕ) (i : ℕ) : Type 0 where
@@ -61,12 +62,12 @@ pickShape false a b = b
 
 unfoldable pub shapeOf : ℕ → Shape
 shapeOf k =
-    pickShape (ltb k 2) Lit
-    (pickShape (eqb k 3) Lit
-    (pickShape (ltb k 6) Num
-    (pickShape (eqb k 8) Two
-    (pickShape (eqb k 9) Two
-    (pickShape (eqb k 17) Skips One)))))
+    pickShape (ltb k kRange) Lit
+    (pickShape (eqb k kIdent) Lit
+    (pickShape (ltb k kPosPred) Num
+    (pickShape (eqb k kSeq) Two
+    (pickShape (eqb k kChoice) Two
+    (pickShape (eqb k kSkip) Skips One)))))
 
 -- the literal of row i, if the row has one, lies in a text of n bytes
 abbrev pub LitInside : List ℕ → ℕ → ℕ → Type 0
@@ -74,7 +75,7 @@ LitInside w n i = shapeOf (kindAt w i) ≡ Lit → xAt w i + yAt w i ≤ n
 
 -- every literal of the rows does
 abbrev pub Inside : List ℕ → ℕ → Type 0
-Inside w n = (i : ℕ) → i < length w / 4 → LitInside w n i
+Inside w n = (i : ℕ) → i < length w / rowWidth → LitInside w n i
 
 -- every literal of a tree does
 abbrev pub AllWithin : ℕ → List Span → Type 0

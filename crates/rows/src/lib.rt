@@ -1,12 +1,23 @@
 // Reading and comparing postfix rows of four words.
 ghost use mathlib.Core.Path.{_≡_};
 ghost use mathlib.Core.Bool.{true};
-ghost use Prim.Native.Nat.{ℕ, _+_, _≤_, _<_, _/_};
+ghost use Prim.Native.Nat.{ℕ, _+_, _-_, _≤_, _<_, _/_};
 ghost use lib.ListN.{length, getD};
+ghost use Rattle.grammar.specs.Numbers.{rowWidth, kPair};
 ghost use Rattle.grammar.specs.Tree.{Expr};
 ghost use Rattle.grammar.specs.Rows.{Span};
 ghost use Rattle.grammar.specs.Text.{bytesAt, resolve};
-ghost use Rattle.rows.specs.Rows.{rowAt, shapeOf, cellAt, Tells, block, Unlike, LitInside, At, StandsIn};
+ghost use Rattle.rows.specs.Rows.{kindAt, sizeAt, rowAt, shapeOf, cellAt, Tells, block, Unlike, LitInside, At, Stands, StandsIn};
+use grammar::CHOICE;
+use grammar::IDENT;
+use grammar::POS_PRED;
+use grammar::RANGE;
+use grammar::ROW_WIDTH;
+use grammar::SEQ;
+use grammar::SIZE;
+use grammar::SKIP;
+use grammar::X;
+use grammar::Y;
 
 // What a row lookup finds.
 pub enum Lookup {
@@ -39,13 +50,13 @@ pub fn wide(x: u32) -> usize
 pub fn row_at(rows: &[u32], i: usize) -> Lookup
     ensures { λ r. ⌜ r ≡ rowAt (now (rows .entry)) i ⌝ }
 {
-    if i < rows.len() / 4 {
-        let at = i * 4;
+    if i < rows.len() / ROW_WIDTH {
+        let at = i * ROW_WIDTH;
         Lookup::Row {
             kind: rows[at],
-            x: rows[at + 1],
-            y: rows[at + 2],
-            size: rows[at + 3],
+            x: rows[at + X],
+            y: rows[at + Y],
+            size: rows[at + SIZE],
         }
     } else {
         Lookup::Refused
@@ -56,25 +67,35 @@ pub fn row_at(rows: &[u32], i: usize) -> Lookup
 pub fn shape_of(kind: u32) -> Shape
     ensures { λ r. ⌜ r ≡ shapeOf kind ⌝ }
 {
-    if kind < 2 {
+    if kind < RANGE {
         return Shape::Lit;
     }
-    if kind == 3 {
+    if kind == IDENT {
         return Shape::Lit;
     }
-    if kind < 6 {
+    if kind < POS_PRED {
         return Shape::Num;
     }
-    if kind == 8 {
+    if kind == SEQ {
         return Shape::Two;
     }
-    if kind == 9 {
+    if kind == CHOICE {
         return Shape::Two;
     }
-    if kind == 17 {
+    if kind == SKIP {
         return Shape::Skips;
     }
     Shape::One
+}
+
+// The row of the left side of row i, which has two children (kind 8 or 9); its right side is the row before it.
+pub fn left_of(rows: &[u32], i: usize) -> usize
+    requires { ⌜ Stands (now rows) i ⌝ }
+    requires { ⌜ kindAt (now rows) i / 2 ≡ kPair ⌝ }
+    ensures { λ l. ⌜ l ≡ i - 1 - sizeAt (now (rows .entry)) (i - 1) ⌝ }
+{
+    let right = i - 1;
+    right - wide(rows[right * ROW_WIDTH + SIZE])
 }
 
 // The bytes of the literal with offset x and length n.
@@ -164,7 +185,7 @@ pub fn same_row(
     text2: &[u8],
     j: usize,
 ) -> bool
-    requires { ⌜ (i < length (now rows1) / 4) × (j < length (now rows2) / 4) ⌝ }
+    requires { ⌜ (i < length (now rows1) / rowWidth) × (j < length (now rows2) / rowWidth) ⌝ }
     requires { ⌜ LitInside (now rows1) (length (now text1)) i ⌝ }
     requires { ⌜ LitInside (now rows2) (length (now text2)) j ⌝ }
     ensures { λ r. ⌜ Tells r (cellAt (now (text1 .entry)) (now (rows1 .entry)) i ≡ cellAt (now (text2 .entry)) (now (rows2 .entry)) j) ⌝ }
@@ -211,7 +232,7 @@ pub fn same_rows(
     j: usize,
     n: usize,
 ) -> bool
-    requires { ⌜ (i + n ≤ length (now rows1) / 4) × (j + n ≤ length (now rows2) / 4) ⌝ }
+    requires { ⌜ (i + n ≤ length (now rows1) / rowWidth) × (j + n ≤ length (now rows2) / rowWidth) ⌝ }
     requires { ⌜ ((k : ℕ) → k < n → LitInside (now rows1) (length (now text1)) (i + k)) ⌝ }
     requires { ⌜ ((k : ℕ) → k < n → LitInside (now rows2) (length (now text2)) (j + k)) ⌝ }
     ensures { λ r. ⌜ Tells r ((k : ℕ) → k < n → cellAt (now (text1 .entry)) (now (rows1 .entry)) (i + k) ≡ cellAt (now (text2 .entry)) (now (rows2 .entry)) (j + k)) ⌝ }

@@ -1,8 +1,27 @@
 // Tables, reports and refusals for a person to read.
 ghost use Prim.Native.Nat.{_+_, _*_, _≤_};
 ghost use lib.ListN.{length};
-ghost use Rattle.io.specs.Counts.{Counts};
+use grammar::IDENT;
+use grammar::INSENS;
+use grammar::LENGTH;
+use grammar::PEEK_SLICE;
+use grammar::PEEK_SLICE_END;
+use grammar::RANGE;
+use grammar::REP_EXACT;
+use grammar::REP_MAX;
+use grammar::REP_MIN;
+use grammar::REP_MIN_MAX;
+use grammar::ROW_WIDTH;
+use grammar::ROWS;
+use grammar::RULE_WIDTH;
+use grammar::SIZE;
+use grammar::SKIP;
+use grammar::STR;
+use grammar::TYPE;
+use grammar::X;
+use grammar::Y;
 use optimizer::Answer;
+use optimizer::REPORT;
 
 pub fn text(s: &[u8]) {
     io::write_all(1, s);
@@ -12,51 +31,27 @@ fn number(n: u32) {
     io::print_decimal(1, n as u64);
 }
 
-// A table before and after the call. More rules or rows than the areas here hold are left out; no example has them.
-pub fn example(title: &[u8], rules: &[[u32; 4]], rows: &[[u32; 4]], literals: &[u8]) {
+pub fn line() {
     text(b"\n");
-    text(title);
-    let mut r = [0u32; 16];
-    let mut w = [0u32; 64];
-    let n = flat(rules, &mut r);
-    let m = flat(rows, &mut w);
-    both(&r[..n], &w[..m], literals);
 }
 
-// The words of cells, in front of an area.
-fn flat(cells: &[[u32; 4]], into: &mut [u32]) -> usize
-    ensures { λ r. ⌜ Counts r (now (into .exit)) ⌝ }
-{
-    let mut at = 0;
-    let mut i = 0;
-    while i < cells.len() {
-        if into.len() - at < 4 {
-            break;
-        }
-        let cell = cells[i];
-        put(cell, into, at);
-        at += 4;
-        i += 1;
-    }
-    at
+fn space() {
+    text(b" ");
 }
 
-fn put(cell: [u32; 4], into: &mut [u32], at: usize)
-    requires { ⌜ at + 4 ≤ length (now into) ⌝ }
-{
-    into[at] = cell[0];
-    into[at + 1] = cell[1];
-    into[at + 2] = cell[2];
-    into[at + 3] = cell[3];
-}
-
-fn both(rules: &[u32], rows: &[u32], literals: &[u8]) {
+// A table before and after the call.
+pub fn both(rules: &[u32], rows: &[u32], literals: &[u8]) {
     text(b"  before\n");
     table(rules, rows, literals);
+    call(rules, rows, literals);
+}
+
+fn call(rules: &[u32], rows: &[u32], literals: &[u8]) {
     let mut out_rules = areas::rules();
     let mut out_rows = areas::rows();
     let mut out_text = areas::text();
-    let a = answer(
+    let a = areas::answer(
+        areas::ALL,
         rules,
         rows,
         literals,
@@ -65,38 +60,6 @@ fn both(rules: &[u32], rows: &[u32], literals: &[u8]) {
         &mut out_text,
     );
     after(a, &out_rules, &out_rows, &out_text);
-}
-
-fn answer(
-    rules: &[u32],
-    rows: &[u32],
-    literals: &[u8],
-    out_rules: &mut [u32],
-    out_rows: &mut [u32],
-    out_text: &mut [u8],
-) -> Answer {
-    let mut a_rules = areas::rules();
-    let mut a_rows = areas::rows();
-    let mut a_text = areas::text();
-    let mut b_rules = areas::rules();
-    let mut b_rows = areas::rows();
-    let mut b_text = areas::text();
-    let mut marks = areas::rules();
-    optimizer::optimize(
-        rules,
-        rows,
-        literals,
-        out_rules,
-        out_rows,
-        out_text,
-        &mut a_rules,
-        &mut a_rows,
-        &mut a_text,
-        &mut b_rules,
-        &mut b_rows,
-        &mut b_text,
-        &mut marks,
-    )
 }
 
 fn after(a: Answer, out_rules: &[u32], out_rows: &[u32], out_text: &[u8]) {
@@ -114,25 +77,26 @@ fn after(a: Answer, out_rules: &[u32], out_rows: &[u32], out_text: &[u8]) {
     report(numbers);
 }
 
-fn report(numbers: [u32; 14]) {
+fn report(numbers: [u32; REPORT]) {
     text(b"  report:");
-    pairs(numbers);
-    text(b"\n");
+    pair(numbers, 0);
+    pair(numbers, 2);
+    pair(numbers, 4);
+    pair(numbers, 6);
+    pair(numbers, 8);
+    pair(numbers, 10);
+    pair(numbers, 12);
+    line();
 }
 
-fn pairs(numbers: [u32; 14]) {
-    let mut i = 0;
-    while i < 7 {
-        pair(numbers[2 * i], numbers[2 * i + 1]);
-        i += 1;
-    }
-}
-
-fn pair(before: u32, after: u32) {
-    text(b" ");
-    number(before);
+// A step's rows before and after.
+fn pair(numbers: [u32; REPORT], i: usize)
+    requires { ⌜ i + 2 ≤ 14 ⌝ }
+{
+    space();
+    number(numbers[i]);
     text(b">");
-    number(after);
+    number(numbers[i + 1]);
 }
 
 fn refused(n: u32) {
@@ -144,24 +108,27 @@ fn refused(n: u32) {
 }
 
 fn reason(n: u32) {
-    match n {
-        1 => text(b"an output or work area is below full size"),
-        2 => text(b"a word count is no multiple of four, or the input is above full size"),
-        3 => text(b"rules or rows that are no table of trees"),
-        4 => text(b"a name or literal outside the text or not ASCII"),
-        5 => text(b"two rules with equal names, or a reserved name"),
-        6 => text(b"a count of zero repeats"),
-        7 => text(b"a skip list meets a rule that is already being read"),
-        _ => text(b"packed text or rows above full size, in the input or after some step"),
-    }
+    part(
+        b"\n\
+an output or work area is below full size\n\
+a word count is no multiple of four, or the input is above full size\n\
+rules or rows that are no table of trees\n\
+a name or literal outside the text or not ASCII\n\
+two rules with equal names, or a reserved name\n\
+a count of zero repeats\n\
+a skip list meets a rule that is already being read\n\
+packed text or rows above full size, in the input or after some step",
+        b'\n',
+        wide(n),
+    );
 }
 
 fn table(rules: &[u32], rows: &[u32], literals: &[u8]) {
-    let n = rules.len() / 4;
+    let n = rules.len() / RULE_WIDTH;
     let mut first = 0;
     let mut i = 0;
     while i < n {
-        first = rule(rules, 4 * i, rows, first, literals);
+        first = rule(rules, RULE_WIDTH * i, rows, first, literals);
         i += 1;
     }
 }
@@ -172,10 +139,10 @@ fn rule(rules: &[u32], at: usize, rows: &[u32], first: usize, literals: &[u8]) -
     requires { ⌜ first ≤ length (now rows) ⌝ }
     ensures { λ r. ⌜ r ≤ length (now (rows .entry)) ⌝ }
 {
-    head(rules[at], rules[at + 1], rules[at + 2], literals);
-    let n = count(wide(rules[at + 3]), rows.len() - first);
-    all(rows, first, n, literals);
-    first + 4 * n
+    head(rules[at], rules[at + LENGTH], rules[at + TYPE], literals);
+    let n = fitting(rules[at + ROWS], rows.len() - first);
+    all(rows, first, n / ROW_WIDTH, literals);
+    first + n
 }
 
 fn head(offset: u32, length: u32, ty: u32, literals: &[u8]) {
@@ -183,14 +150,20 @@ fn head(offset: u32, length: u32, ty: u32, literals: &[u8]) {
     span(literals, wide(offset), wide(length));
     text(b", ");
     type_name(ty);
-    text(b"\n");
+    line();
 }
 
-// n rows, or as many as there are words for.
-fn count(n: usize, words: usize) -> usize
-    ensures { λ r. ⌜ 4 * r ≤ words ⌝ }
+// The words of n cells, of as many of them as there are words for.
+pub fn fitting(n: u32, words: usize) -> usize
+    ensures { λ r. ⌜ r ≤ words ⌝ }
 {
-    if n <= words / 4 { n } else { words / 4 }
+    let most = words / ROW_WIDTH;
+    let n = wide(n);
+    if n <= most {
+        ROW_WIDTH * n
+    } else {
+        ROW_WIDTH * most
+    }
 }
 
 fn wide(n: u32) -> usize {
@@ -218,7 +191,7 @@ fn some(rows: &[u32], first: usize, from: usize, to: usize, literals: &[u8])
 {
     let mut i = from;
     while i < to {
-        row(rows, first + 4 * i, i, literals);
+        row(rows, first + ROW_WIDTH * i, i, literals);
         i += 1;
     }
 }
@@ -227,34 +200,38 @@ fn row(rows: &[u32], at: usize, i: usize, literals: &[u8])
     requires { ⌜ at + 4 ≤ length (now rows) ⌝ }
 {
     column(i);
-    column(wide(rows[at + 3]));
+    column(wide(rows[at + SIZE]));
     text(b"  ");
-    kind(rows[at], rows[at + 1], rows[at + 2], literals);
-    text(b"\n");
+    kind(rows[at], rows[at + X], rows[at + Y], literals);
+    line();
 }
 
 // A number below 100,000, to the right of eight places.
 fn column(n: usize) {
-    if n < 10 {
-        text(b"       ");
-    } else if n < 100 {
-        text(b"      ");
-    } else if n < 1000 {
-        text(b"     ");
-    } else {
-        text(b"    ");
-    }
+    span(b"       ", 0, spaces(n));
     io::print_decimal(1, n as u64);
+}
+
+fn spaces(n: usize) -> usize {
+    if n < 10 {
+        7
+    } else if n < 100 {
+        6
+    } else if n < 1000 {
+        5
+    } else {
+        4
+    }
 }
 
 fn kind(k: u32, x: u32, y: u32, literals: &[u8]) {
     kind_name(k);
     match k {
-        0 | 1 => quoted(literals, x, y),
-        3 => plain(literals, x, y),
-        2 => range(x, y),
-        5 | 16 => two(x, y),
-        4 | 13 | 14 | 15 | 17 => one(x),
+        STR | INSENS => quoted(literals, x, y),
+        IDENT => plain(literals, x, y),
+        RANGE => range(x, y),
+        PEEK_SLICE_END | REP_MIN_MAX => two(x, y),
+        PEEK_SLICE | REP_EXACT | REP_MIN | REP_MAX | SKIP => one(x),
         _ => {}
     }
 }
@@ -266,12 +243,12 @@ fn quoted(literals: &[u8], offset: u32, length: u32) {
 }
 
 fn plain(literals: &[u8], offset: u32, length: u32) {
-    text(b" ");
+    space();
     span(literals, wide(offset), wide(length));
 }
 
 fn range(first: u32, last: u32) {
-    text(b" ");
+    space();
     byte(first);
     text(b"..");
     byte(last);
@@ -289,7 +266,7 @@ fn byte(x: u32) {
 }
 
 fn one(x: u32) {
-    text(b" ");
+    space();
     number(x);
 }
 
@@ -309,24 +286,29 @@ fn span(literals: &[u8], offset: usize, length: usize) {
 }
 
 fn type_name(ty: u32) {
-    word(b"Normal Silent Atomic CompoundAtomic NonAtomic", ty);
-}
-
-fn kind_name(k: u32) {
-    word(
-        b"Str Insens Range Ident PeekSlice PeekSlice PosPred NegPred Seq Choice Opt Rep RepOnce RepExact RepMin RepMax RepMinMax Skip Push RestoreOnErr",
-        k,
+    part(
+        b"Normal Silent Atomic CompoundAtomic NonAtomic",
+        b' ',
+        wide(ty),
     );
 }
 
-// The word at place k of a list with spaces between.
-fn word(list: &[u8], k: u32) {
-    let from = start(list, k);
-    let to = end(list, from);
+fn kind_name(k: u32) {
+    part(
+        b"Str Insens Range Ident PeekSlice PeekSlice PosPred NegPred Seq Choice Opt Rep RepOnce RepExact RepMin RepMax RepMinMax Skip Push RestoreOnErr",
+        b' ',
+        wide(k),
+    );
+}
+
+// The part at place k of a list, whose parts have b between.
+pub fn part(list: &[u8], b: u8, k: usize) {
+    let from = start(list, b, k);
+    let to = end(list, b, from);
     text(&list[from..to]);
 }
 
-fn start(list: &[u8], k: u32) -> usize
+pub fn start(list: &[u8], b: u8, k: usize) -> usize
     ensures { λ r. ⌜ r ≤ length (now (list .entry)) ⌝ }
 {
     let mut left = k;
@@ -335,7 +317,7 @@ fn start(list: &[u8], k: u32) -> usize
         if left == 0 {
             return at;
         }
-        if list[at] == b' ' {
+        if list[at] == b {
             left -= 1;
         }
         at += 1;
@@ -343,16 +325,9 @@ fn start(list: &[u8], k: u32) -> usize
     at
 }
 
-fn end(list: &[u8], from: usize) -> usize
+pub fn end(list: &[u8], b: u8, from: usize) -> usize
     requires { ⌜ from ≤ length (now list) ⌝ }
     ensures { λ r. ⌜ (from ≤ r) × (r ≤ length (now (list .entry))) ⌝ }
 {
-    let mut at = from;
-    while at < list.len() {
-        if list[at] == b' ' {
-            return at;
-        }
-        at += 1;
-    }
-    at
+    bytes::scan::find(list, from, list.len(), b)
 }

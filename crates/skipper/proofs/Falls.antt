@@ -4,8 +4,9 @@ use mathlib.Core.List.{List, [], _∷_, _++_}
 use Prim.Native.Nat.{ℕ, zero, suc, _+_, _-_, _/_, _≤_, _<_}
 use native.Mathlib.Omega.{arith}
 use lib.ListN.{length, length-append, drop}
+use Rattle.grammar.specs.Numbers.{rowWidth}
 use Rattle.grammar.specs.Basic.{Bytes}
-use Rattle.grammar.specs.Tree.{Un, Expr, E, lit, fixed, skip, un, bin, size}
+use Rattle.grammar.specs.Tree.{Head, Un, Expr, E, lit, fixed, skip, un, bin, size}
 use Rattle.grammar.specs.Rows.{Span}
 use Rattle.grammar.specs.Text.{resolve}
 use Rattle.grammar.specs.Table.{Table, ruleWords, resolveTable}
@@ -20,7 +21,7 @@ use Rattle.writing.proofs.Trees.{done-written, full-not, written-out, un-tree, 
 use Rattle.chains.specs.Runs.{wrap}
 use Rattle.skipper.specs.Memory.{byMarks}
 use Rattle.skipper.specs.Lends.{listsOf}
-use Rattle.skipper.specs.Skips.{nodeBy, nodeOf, ListAnswer, Settles, Fell, FellLoop, FellFork, FallAnswer, Rising, RisenAnswer}
+use Rattle.skipper.specs.Skips.{nodeBy, nodeOf, ListAnswer, Settles, Fell, FellLoop, FellFork, FallAnswer, Rising, RisenAnswer, CrownedAnswer}
 use Rattle.skipper.specs.declared.Fallen.{Fallen}
 use Rattle.skipper.specs.declared.Fallen.the-variants.{Plain, Looped, Forked}
 use Rattle.skipper.specs.declared.Loop.{Loop}
@@ -127,7 +128,7 @@ pub record Up (w o₀ : List ℕ) (base root : ℕ) (p q : Place) (o : List ℕ)
   pub high : i ≤ root
   pub end : at + base ≡ q .rows + i
   pub same : length o ≡ length o₀
-  pub room : at ≤ length o / 4
+  pub room : at ≤ length o / rowWidth
   pub kept : (us : List Un) (r : Expr Span) → At w root (wrap us r) → base + length us ≡ root → (e : E) (b t t₁ : List ℕ) → Written q p e b o₀ t t₁ → Written (upTo at q) p (wrap (drop (root - i) us) e) b o t t₁
 
 pub up-none : {w o₀ : List ℕ} {base root : ℕ} {p q : Place} → Rising w base root p q o₀ → Up w o₀ base root p q o₀ (q .rows) base
@@ -142,10 +143,10 @@ up-none {w} {o₀} {base} {root} {p} {q} z = record {
       rw (n, drop-all us) (record { fits = c .fits; rows = c .rows; text = c .text; words = c .words; bytes = c .bytes });
 }
 
-row-done : {z : Wrote} {s : Place} (q : Place) (h : Rattle.grammar.specs.Tree.Head) (n : ℕ) (o o₁ : List ℕ) → z ≡ Done s → RowAnswer z q h n o o₁ → RowPut s q h n o o₁
+row-done : {z : Wrote} {s : Place} (q : Place) (h : Head) (n : ℕ) (o o₁ : List ℕ) → z ≡ Done s → RowAnswer z q h n o o₁ → RowPut s q h n o o₁
 row-done q h n o o₁ d r = subst (λ (z : Wrote). RowAnswer z q h n o o₁) d r
 
-row-full : {z : Wrote} (q : Place) (h : Rattle.grammar.specs.Tree.Head) (n : ℕ) (o o₁ : List ℕ) → z ≡ Full → RowAnswer z q h n o o₁ → q .rows < length o / 4 → ⊥
+row-full : {z : Wrote} (q : Place) (h : Head) (n : ℕ) (o o₁ : List ℕ) → z ≡ Full → RowAnswer z q h n o o₁ → q .rows < length o / rowWidth → ⊥
 row-full q h n o o₁ d r = subst (λ (z : Wrote). RowAnswer z q h n o o₁) d r
 
 module _ {w o₀ : List ℕ} {base root₀ : ℕ} {p q : Place} {o : List ℕ} {at i : ℕ} (u : Up w o₀ base root₀ p q o at i) where
@@ -174,23 +175,23 @@ module _ {w o₀ : List ℕ} {base root₀ : ℕ} {p q : Place} {o : List ℕ} {
       let n : root₀ - i ≡ 0 = omega arith in
       rw n at (u .kept us r a c e b t t₁ l)
 
--- ---- a run over what was written of the tree below it
+-- ---- a row over what was written, and a run over it
 
-module _ {z : Wrote} (p : Place) (v c : E) (us : List Un) (o o₁ b b₁ : List ℕ) (g : v ≡ wrap us c) (h : Answer z p c o o₁ b b₁) where
-  pub run-full : z ≡ Full → Fits p v o b → ⊥
-  run-full d f = full-not p c o o₁ b b₁ d h (fits-wrap us (rw g at f))
+module _ {z : Wrote} (p q : Place) (h : Head) (us : List Un) (o₁ o₂ : List ℕ) (k : RowAnswer z q h (q .rows - p .rows + 1) o₁ o₂) where
+  pub crown-full : z ≡ Full → CrownedAnswer Full q p h us o₁ o₂
+  crown-full d e o t t₁ g f = full-not p e o o₂ t t₁ d (g z o₂ k) (fits-wrap us f)
 
-  module _ {q : Place} (d : z ≡ Done q) where
-    pub run-done : (a : Wrote) (o₂ : List ℕ) → RisenAnswer a q p us o₁ o₂ → Answer a p v o o₂ b b₁
-    run-done a o₂ r = rw g (r c o b b₁ (done-written p c o o₁ b b₁ d h))
+  module _ {s : Place} (d : z ≡ Done s) where
+    pub crown-done : (a : Wrote) (o₃ : List ℕ) → RisenAnswer a s p us o₂ o₃ → CrownedAnswer a q p h us o₁ o₃
+    crown-done a o₃ r e o t t₁ g = r e o t t₁ (done-written p e o o₂ t t₁ d (g z o₂ k))
 
-    pub run-rising : {w : List ℕ} {base root : ℕ} → Areas o b → base ≤ root → root < length w / 4 → Rising w base root p q o₁
-    run-rising a l i = let x = done-written p c o o₁ b b₁ d h in record {
-      order = l;
-      inside = i;
-      after = omega (arith, x .rows);
-      room = omega (arith, x .rows, x .fits .rows, written-out x);
-      words = omega (arith, a .words, written-out x);
+    pub crown-rising : {w : List ℕ} {base root : ℕ} → Rising w base root p q o₁ → length o₂ ≡ length o₁ → Rising w base root p s o₂
+    crown-rising r l = let j = row-done q h _ o₁ o₂ d k in record {
+      order = r .order;
+      inside = r .inside;
+      after = omega (arith, r .after, j .rows);
+      room = omega (arith, j .rows, j .room);
+      words = omega (arith, r .words);
     }
 
 -- ---- what a way down answered

@@ -2,9 +2,10 @@
 use mathlib.Core.Path.{_≡_, refl, sym, ap, subst, _∙_}
 use mathlib.Core.List.{List}
 use mathlib.Core.Logic.{_⊎_, inl, inr}
-use Prim.Native.Nat.{ℕ, _+_, _-_, _≤_, _<_}
+use Prim.Native.Nat.{ℕ, _+_, _-_, _/_, _≤_, _<_}
 use native.Mathlib.Omega.{arith}
 use lib.ListN.{length}
+use Rattle.grammar.specs.Numbers.{rowWidth}
 use Rattle.grammar.specs.Basic.{Bytes}
 use Rattle.grammar.specs.Tree.{Bin, Expr, E, bin, binKind, size}
 use Rattle.grammar.specs.Rows.{Span}
@@ -15,10 +16,10 @@ use Rattle.rows.proofs.Views.{TwoView}
 use Rattle.writing.specs.declared.Place.{Place}
 use Rattle.writing.specs.declared.Wrote.{Wrote}
 use Rattle.writing.specs.declared.Wrote.the-variants.{Full}
-use Rattle.writing.specs.Writes.{Room, Fits, Written, RowAnswer, Answer}
-use Rattle.writing.proofs.Trees.{full-not, written-room, bin-tree, fits-left, fits-right}
+use Rattle.writing.specs.Writes.{Areas, Room, Fits, Written, RowAnswer, Answer}
+use Rattle.writing.proofs.Trees.{full-not, written-out, written-room, bin-tree, fits-left, fits-right}
 use Rattle.skipper.specs.Lends.{Lent}
-use Rattle.skipper.specs.Skips.{Settles}
+use Rattle.skipper.specs.Skips.{Settles, Rising}
 use Rattle.skipper.proofs.Skipping.{skipped, settles-first, settles-second}
 
 -- what step 2 makes of the tree at row i, whatever that is, stands from p to q
@@ -79,7 +80,7 @@ module _ {W : Walks} {left base : ℕ} {p : Place} {o₀ b₀ o b : List ℕ} {c
       go (inr (inl x)) = let e : child ≡ base - 1 = omega (arith, x .row) in inr (inr (record { row = x .after; mid = place at end; words = o; bytes = b; first = x .walked; second = rw e at k }))
       go (inr (inr x)) = absurd (omega (arith, x .row))
 
-  pub forking-all : base ≤ child → left < base → Both W left base p o₀ b₀ o b child at end
+  pub forking-all : base ≤ child → left + 1 < base → Both W left base p o₀ b₀ o b child at end
   forking-all h l = go (f .stage)
     where
       go : First left base p o₀ b₀ o b child next at end ⊎ (Second W left base p o₀ b₀ o b child next at end ⊎ Both W left base p o₀ b₀ o b child at end) → Both W left base p o₀ b₀ o b child at end
@@ -124,6 +125,16 @@ module _ {W : Walks} {left base : ℕ} {p : Place} {o₀ b₀ o b : List ℕ} {c
             let j : At w child (v .right) = subst (λ (i : ℕ). At w i (v .right)) i (v .atRight) in
             full-not (place at₀ end) (skipped t (resolve s (v .right))) o o₁ b b₁ d (c (v .right) j (settles-second s v st)) (fits-right (g (place at₀ end) o b (z .walked)) e)
         go (inr (inr z)) = absurd (omega (arith, z .row))
+
+-- there is room for their row
+pub forking-rising : {q s p : Place} {c e : E} {o o₁ o₂ b b₁ b₂ v : List ℕ} {base root : ℕ} → Written q p c o o₁ b b₁ → Written s q e o₁ o₂ b₁ b₂ → Areas o b → (base ≤ root) × (root < length v / rowWidth) → Rising v base root p s o₂
+forking-rising w x a l = record {
+  order = l .0;
+  inside = l .1;
+  after = omega (arith, w .rows, x .rows);
+  room = omega (arith, x .rows, x .fits .rows, written-out x);
+  words = omega (arith, a .words, written-out w, written-out x);
+}
 
 -- their row over both
 pub forking-done : {q s p : Place} {v c e : E} {u : Bin} {o o₁ o₂ b b₁ b₂ : List ℕ} → v ≡ bin u c e → Written q p c o o₁ b b₁ → Written s q e o₁ o₂ b₁ b₂ → (a : Wrote) (k : ℕ) (o₃ : List ℕ) → k ≡ binKind u → RowAnswer a s (k, 0, 0) (s .rows - p .rows + 1) o₂ o₃ → Answer a p v o o₃ b b₂

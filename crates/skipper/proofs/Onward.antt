@@ -1,6 +1,6 @@
 -- The strings of an expression, written in a loop: what is still to come, and what its writing says of the whole. Assumes nothing.
 use mathlib.Core.Path.{_≡_, refl, _∙_}
-use mathlib.Core.List.{List}
+use mathlib.Core.List.{List, []}
 use Prim.Native.Nat.{ℕ, _+_, _-_, _*_, _/_, _^_, _≤_, _<_}
 use native.Mathlib.Omega.{arith}
 use lib.ListN.{length}
@@ -11,7 +11,7 @@ use Rattle.grammar.specs.Text.{resolve}
 use Rattle.grammar.specs.Table.{Table, resolveTable}
 use Rattle.grammar.specs.Lists.{readLeft, readIn}
 use Rattle.rows.specs.Rows.{At, kindAt, xAt, yAt, sizeAt}
-use Rattle.rows.proofs.Laws.{Found, root}
+use Rattle.rows.proofs.Laws.{Found, root, found-row}
 use Rattle.rows.proofs.Views.{TwoView}
 use Rattle.names.specs.Names.{IsName}
 use Rattle.writing.specs.Writes.{Room, LitAnswer, StrsAnswer}
@@ -20,17 +20,20 @@ use Rattle.writing.specs.declared.Wrote.{Wrote}
 use Rattle.writing.specs.declared.Wrote.the-variants.{Done, Full}
 use Rattle.skipper.specs.Lends.{Lent}
 use Rattle.skipper.specs.Ways.{Spells}
-use Rattle.skipper.specs.Skips.{Spelled, literalAt, BodyAt}
-use Rattle.skipper.proofs.Leaf.{choice-view}
+use Rattle.skipper.specs.Skips.{nodeOf, Spelled, literalAt, BodyAt}
+use Rattle.skipper.specs.declared.Node.the-variants.{Pair}
+use Rattle.skipper.proofs.Leaf.{left-stands, choice-view}
+use Rattle.skipper.proofs.Skipping.{two-view}
 use Rattle.skipper.proofs.Spelling.{Split, spell-str, spell-ident, spell-name, spell-leaf, spell-choice, name-fuel, str-wrote, strs-room, strs-both, strs-over}
 use Rattle.skipper.proofs.Ways.{spells-known}
 
 -- a row as it stands
-pub row-here : (w : List ℕ) (i : ℕ) → i < length w / 4 → Found w i (kindAt w i) (xAt w i) (yAt w i) (sizeAt w i)
-row-here w i h = record { within = h; kind = refl; x = refl; y = refl; rows = refl }
-
 pub here : {w : List ℕ} {i : ℕ} {r : Expr Span} → At w i r → Found w i (kindAt w i) (xAt w i) (yAt w i) (sizeAt w i)
-here {w} {i} a = row-here w i (root a .inside)
+here {w} {i} a = found-row w i (root a .inside)
+
+-- its two children
+pub pair : {w : List ℕ} {i : ℕ} {r : Expr Span} (a : At w i r) → nodeOf (kindAt w i) ≡ Pair → TwoView w i (kindAt w i) (xAt w i) (yAt w i) (sizeAt w i) r
+pair a z = two-view [] [] (here a) a z
 
 -- both sides of a Choice
 module _ {w : List ℕ} {i : ℕ} {r : Expr Span} (a : At w i r) (z : kindAt w i ≡ 9) where
@@ -38,7 +41,7 @@ module _ {w : List ℕ} {i : ℕ} {r : Expr Span} (a : At w i r) (z : kindAt w i
   fork = choice-view (here a) a z
 
   pub fork-left : {j : ℕ} → j ≡ i - 1 - sizeAt w (i - 1) → At w j (fork .left)
-  fork-left e = rw (e, root (fork .atRight) .rows) (fork .atLeft)
+  fork-left e = left-stands fork e
 
   pub fork-small : (j : ℕ) → j ≡ i - 1 - sizeAt w (i - 1) → sizeAt w j < sizeAt w i
   fork-small j e = omega (arith, root (fork-left e) .rows, fork .rows)

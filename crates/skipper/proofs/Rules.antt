@@ -9,6 +9,7 @@ use native.Mathlib.Omega.{arith}
 use lib.ListN.{length, getD, set, getElem?, length-set, length-append}
 use lib.Seq.{getD-set-same, getD-set-other}
 use lib.Dec.{eqb}
+use Rattle.grammar.specs.Numbers.{ruleWidth, rowWidth, markWidth}
 use Rattle.grammar.specs.Basic.{Bytes, sameBytes}
 use Rattle.grammar.specs.Tree.{E, size}
 use Rattle.grammar.specs.Rows.{Span, flat}
@@ -18,7 +19,7 @@ use Rattle.grammar.proofs.Logic.{none-some, some-eq, eqb-self, eqb-eq, sameByte
 use Rattle.rows.specs.Rows.{At}
 use Rattle.rows.proofs.Laws.{size-pos, length-flat}
 use Rattle.names.proofs.Finding.{rule-words}
-use Rattle.names.specs.Names.{nameOf, rowsBefore, First, Hashed, Ended}
+use Rattle.names.specs.Names.{nameOf, rowsBefore, First, AllIndexed, Ended, memoryWord, waysWord, endWord}
 use Rattle.skipper.specs.Memory.{Marks}
 use Rattle.skipper.specs.Lends.{indexFrom, stateAt, marksOf, zeros, Steady}
 use Rattle.skipper.proofs.Memories.{Sets}
@@ -42,18 +43,18 @@ not-zero v h = go (eqb v 0) refl
 
 -- one memory is written
 pub steady-none : (m : List ℕ) → Steady m m
-steady-none m = record { fewer = omega arith; hash = λ i. refl; chain = λ i. refl; end = λ i. refl }
+steady-none m = record { fewer = omega arith; slots = λ i. refl; ways = λ i. refl; end = λ i. refl }
 
 pub steady-more : {m m₁ m₂ : List ℕ} → Steady m m₁ → Steady m₁ m₂ → Steady m m₂
-steady-more s t = record { fewer = omega (arith, s .fewer, t .fewer); hash = λ i. t .hash i ∙ s .hash i; chain = λ i. t .chain i ∙ s .chain i; end = λ i. t .end i ∙ s .end i }
+steady-more s t = record { fewer = omega (arith, s .fewer, t .fewer); slots = λ i. t .slots i ∙ s .slots i; ways = λ i. t .ways i ∙ s .ways i; end = λ i. t .end i ∙ s .end i }
 
-pub steady-set : (m : List ℕ) (i v : ℕ) → i * 4 + 1 < length m → 1 ≤ v → Steady m (set m (i * 4 + 1) v)
+pub steady-set : (m : List ℕ) (i v : ℕ) → i * markWidth + memoryWord < length m → 1 ≤ v → Steady m (set m (i * markWidth + memoryWord) v)
 steady-set m i v h l =
     record {
-      fewer = omega (arith, zeros-set m (i * 4 + 1) v h, not-zero v l);
-      hash = λ j. getD-set-other m (i * 4 + 1) (j * 4) v 0 (λ e. omega arith);
-      chain = λ j. getD-set-other m (i * 4 + 1) (j * 4 + 2) v 0 (λ e. omega arith);
-      end = λ j. getD-set-other m (i * 4 + 1) (j * 4 + 3) v 0 (λ e. omega arith);
+      fewer = omega (arith, zeros-set m (i * markWidth + memoryWord) v h, not-zero v l);
+      slots = λ j. getD-set-other m (i * markWidth + memoryWord) (j * markWidth) v 0 (λ e. omega arith);
+      ways = λ j. getD-set-other m (i * markWidth + memoryWord) (j * markWidth + waysWord) v 0 (λ e. omega arith);
+      end = λ j. getD-set-other m (i * markWidth + memoryWord) (j * markWidth + endWord) v 0 (λ e. omega arith);
     }
 
 -- a rule has one name
@@ -75,28 +76,28 @@ index-name i k (r ∷ rs) x y p q = go (sameBytes (r .name) x) (sameBytes (r .na
     go false true u v e f ih = absurd (omega (arith, some-eq i k f, index-later (suc i) k rs x e))
     go false false u v e f ih = ih e f
 
-pub sets-mark : (t : Table Bytes) (m : List ℕ) (x : Bytes) (k v : ℕ) → indexFrom 0 t x ≡ some k → k * 4 + 1 < length m → Sets (marksOf t m) (marksOf t (set m (k * 4 + 1) v)) x v
+pub sets-mark : (t : Table Bytes) (m : List ℕ) (x : Bytes) (k v : ℕ) → indexFrom 0 t x ≡ some k → k * markWidth + memoryWord < length m → Sets (marksOf t m) (marksOf t (set m (k * markWidth + memoryWord) v)) x v
 unfolding marksOf
 sets-mark t m x k v e h =
     record {
-      here = rw e (getD-set-same m (k * 4 + 1) v 0 h);
+      here = rw e (getD-set-same m (k * markWidth + memoryWord) v 0 h);
       others = λ y n. other y n (indexFrom 0 t y) refl;
     }
   where
-    other : (y : Bytes) → (y ≡ x → ⊥) → (o : Option ℕ) → indexFrom 0 t y ≡ o → stateAt (set m (k * 4 + 1) v) o ≡ stateAt m o
+    other : (y : Bytes) → (y ≡ x → ⊥) → (o : Option ℕ) → indexFrom 0 t y ≡ o → stateAt (set m (k * markWidth + memoryWord) v) o ≡ stateAt m o
     other y n none q = refl
-    other y n (some j) q = getD-set-other m (k * 4 + 1) (j * 4 + 1) v 0 (λ f. n (index-name 0 k t y x (q ∙ ap some (omega arith)) e))
+    other y n (some j) q = getD-set-other m (k * markWidth + memoryWord) (j * markWidth + memoryWord) v 0 (λ f. n (index-name 0 k t y x (q ∙ ap some (omega arith)) e))
 
 -- Which rule a name has
 
 -- the words of one rule, and of the rules after it
-word-later : (a b c d : ℕ) (ws : List ℕ) (k n : ℕ) → getD (a ∷ b ∷ c ∷ d ∷ ws) (suc k * 4 + n) 0 ≡ getD ws (k * 4 + n) 0
-word-later a b c d ws k n = let e : suc k * 4 + n ≡ suc (suc (suc (suc (k * 4 + n)))) = omega arith in rw e
+word-later : (a b c d : ℕ) (ws : List ℕ) (k n : ℕ) → getD (a ∷ b ∷ c ∷ d ∷ ws) (suc k * rowWidth + n) 0 ≡ getD ws (k * rowWidth + n) 0
+word-later a b c d ws k n = let e : suc k * ruleWidth + n ≡ suc (suc (suc (suc (k * ruleWidth + n)))) = omega arith in rw e
 
 name-later : (r : Rule Span) (t : Table Span) (text : Bytes) (k : ℕ) → nameOf (ruleWords (r ∷ t)) text (suc k) ≡ nameOf (ruleWords t) text k
 name-later r t text k =
-    let e : suc k * 4 ≡ suc (suc (suc (suc (k * 4)))) = omega arith in
-    let x : getD (ruleWords (r ∷ t)) (suc k * 4) 0 ≡ getD (ruleWords t) (k * 4) 0 = rw e in
+    let e : suc k * ruleWidth ≡ suc (suc (suc (suc (k * 4)))) = omega arith in
+    let x : getD (ruleWords (r ∷ t)) (suc k * ruleWidth) 0 ≡ getD (ruleWords t) (k * ruleWidth) 0 = rw e in
     ap₂ (λ (a b : ℕ). bytesAt text (a, b)) x (word-later _ _ _ _ (ruleWords t) k 1)
 
 sameBytes-no : (a b : Bytes) → (a ≡ b → ⊥) → sameBytes a b ≡ false

@@ -3,10 +3,11 @@ use mathlib.Core.Path.{_≡_, refl, sym, ap, _∙_}
 use mathlib.Core.Bool.{false≢true, Bool, true, false, _&&_, _||_}
 use mathlib.Core.List.{List, [], _∷_}
 use mathlib.Core.Option.{Option, none, some}
-use Prim.Native.Nat.{ℕ, zero, suc, _+_, _-_, _/_, _^_, _≤_, _<_}
+use Prim.Native.Nat.{ℕ, zero, suc, _+_, _-_, _/_, _≤_, _<_}
 use native.Mathlib.Omega.{arith}
 use borrow.Author.Tests.{ne-eqb}
 use lib.ListN.{length, getElem?}
+use Rattle.grammar.specs.Numbers.{ruleWidth, rowWidth}
 use Rattle.grammar.specs.Basic.{Bytes, _>>=_, any, orElse}
 use Rattle.grammar.specs.Tree.{E, Expr, lit, fixed, skip, un, bin, anyNode}
 use Rattle.grammar.specs.Rows.{Span, strRows}
@@ -18,20 +19,20 @@ use Rattle.grammar.proofs.Logic.{none-some, some-eq}
 use Rattle.grammar.proofs.TopDown.{skip-step}
 use Rattle.rows.specs.declared.Shape.{Shape}
 use Rattle.rows.specs.declared.Shape.the-variants.{Lit, Num, One, Two, Skips}
-use Rattle.rows.specs.Rows.{At, shapeOf}
+use Rattle.rows.specs.Rows.{At, kindAt, shapeOf}
 use Rattle.rows.proofs.Laws.{Found, root, headOf}
 use Rattle.rows.proofs.Views.{OneView, TwoView, as-one, as-two, shape-in, shapeIn}
 use Rattle.writing.specs.Writes.{Areas, Fits, Put, RowAnswer, StrsAnswer, Answer}
 use Rattle.writing.specs.declared.Place.{Place}
 use Rattle.writing.specs.declared.Wrote.{Wrote}
 use Rattle.writing.specs.declared.Wrote.the-variants.{Done, Full}
-use Rattle.writing.proofs.Puts.{put-done, put-full}
+use Rattle.writing.proofs.Puts.{put-done, put-full, put-out}
 use Rattle.writing.proofs.Trees.{skip-tree, fits-strs}
 use Rattle.skipper.specs.Memory.{markOf, byMarks, Known}
 use Rattle.skipper.specs.Lends.{listsOf, Lent}
 use Rattle.skipper.specs.Lists.{unreadAt, Lists}
 use Rattle.skipper.specs.Ways.{Spells}
-use Rattle.skipper.specs.Skips.{nodeBy, nodeOf, isList, ListAt, ListAnswer, Settles}
+use Rattle.skipper.specs.Skips.{nodeBy, nodeOf, isList, ListAt, ListAnswer, Settles, Rising}
 use Rattle.skipper.specs.declared.Loop.{Loop}
 use Rattle.skipper.specs.declared.Loop.the-variants.{Over, Nothing}
 use Rattle.skipper.specs.declared.Node as node
@@ -153,6 +154,11 @@ two-shape k = go (shapeOf k)
     go Two h = refl
     go Skips h = let z : _≡_ {A = ℕ} 0 1 = cc in absurd (omega arith)
 
+-- the kind of a Choice
+pub choice-node : {w : List ℕ} {i k : ℕ} {r : Expr Span} → At w i r → k ≡ kindAt w i → k ≡ 9 → nodeOf (kindAt w i) ≡ Pair
+unfolding nodeOf
+choice-node a e z = rw (sym e ∙ z)
+
 leaf-node : {w : List ℕ} {i : ℕ} (r : Expr Span) → At w i r → nodeOf (headOf r .0) ≡ nodeBy (shapeIn r)
 unfolding nodeOf
 leaf-node r a = ap nodeBy (shape-in r)
@@ -213,15 +219,11 @@ module _ {t : Table Bytes} {m : List ℕ} (s : Bytes) {w : List ℕ} {i k x y n 
 
 -- Of what was written
 
-pub record NodeRoom (p q : Place) : Type 0 where
-  pub least : p .rows ≤ q .rows
-  pub most : q .rows + 1 < 2 ^ 32
-
 -- a loop's list
-pub skip-spells : {rules rows : List ℕ} {t : Table Span} (u : Bytes) (x : E) {ss : List Bytes} → Lent rules rows t → skipList (resolveTable u t) x ≡ strings ss → Spells (resolveTable u t) (length rules / 4 + 1) (λ look. readIn look x) ss
+pub skip-spells : {rules rows : List ℕ} {t : Table Span} (u : Bytes) (x : E) {ss : List Bytes} → Lent rules rows t → skipList (resolveTable u t) x ≡ strings ss → Spells (resolveTable u t) (length rules / ruleWidth + 1) (λ look. readIn look x) ss
 unfolding skipList
 skip-spells {rules} {t = t} u x l h =
-    let e : length rules / 4 + 1 ≡ suc (length (resolveTable u t)) = omega (arith, count t (l .heads), length-table u t) in
+    let e : length rules / ruleWidth + 1 ≡ suc (length (resolveTable u t)) = omega (arith, count t (l .heads), length-table u t) in
     record { opened = []; reads = rw e h }
 
 module _ {z : Wrote} (p : Place) (ss : List Bytes) (o o₁ b b₁ : List ℕ) (h : StrsAnswer z p ss o o₁ b b₁) where
@@ -232,8 +234,14 @@ module _ {z : Wrote} (p : Place) (ss : List Bytes) (o o₁ b b₁ : List ℕ) (h
     put : Put q p (length ss) (strRows (spans (p .text) ss)) (joined ss) o o₁ b b₁
     put = put-done p _ _ _ o o₁ b b₁ d h
 
-    pub strs-node : Areas o b → NodeRoom p q
-    strs-node a = record { least = omega (arith, put .rows); most = omega (arith, put .rows, put .fits .rows, a .words) }
+    pub strs-rising : {w : List ℕ} {base root : ℕ} → Areas o b → (base ≤ root) × (root < length w / rowWidth) → Rising w base root p q o₁
+    strs-rising a l = record {
+      order = l .0;
+      inside = l .1;
+      after = omega (arith, put .rows);
+      room = omega (arith, put .rows, put .fits .rows, put-out put);
+      words = omega (arith, a .words, put-out put);
+    }
 
     pub skip-done : (a : Wrote) (o₂ : List ℕ) → RowAnswer a q (17, q .rows - p .rows, 0) (q .rows - p .rows + 1) o₁ o₂ → Answer a p (skip ss) o o₂ b b₁
     skip-done a o₂ r =

@@ -8,6 +8,7 @@ use native.Mathlib.Decide.{decLe}
 use native.Mathlib.Omega.{arith}
 use borrow.Author.Tests.{eq-eqb, ne-eqb}
 use lib.ListN.{length, getD, getElem?}
+use Rattle.grammar.specs.Numbers.{ruleWidth, typeWord, rowsWord, rowWidth, markWidth}
 use Rattle.grammar.specs.Basic.{Bytes, any, sameBytes}
 use Rattle.grammar.specs.Tree.{E, lit, fixed, skip, un, bin, size, anyNode}
 use Rattle.grammar.specs.Rows.{Span}
@@ -18,9 +19,9 @@ use Rattle.grammar.specs.Steps.{isAtomic}
 use Rattle.grammar.specs.Refusals.{meets}
 use Rattle.grammar.proofs.Logic.{none-some, some-eq, or-left, or-right}
 use Rattle.rows.specs.Rows.{At}
-use Rattle.names.specs.Names.{marked, Ended}
+use Rattle.names.specs.Names.{marked, Ended, waysWord, endWord}
 use Rattle.names.proofs.Marks.{length-marked, marked-other, marked-at}
-use Rattle.names.proofs.Index.{hashed-kept}
+use Rattle.names.proofs.Index.{index-kept}
 use Rattle.names.proofs.Finding.{There, rule-words, inside-table}
 use Rattle.skipper.specs.Memory.{markOf, nameList, Marks, byMarks, Known, Grows}
 use Rattle.skipper.specs.Lends.{indexFrom, stateAt, marksOf, listsOf, Lent, Given, Steady}
@@ -82,23 +83,23 @@ rules-no p s (q ∷ t) h = ap₂ _||_ (h 0 q refl) (rules-no p s t (λ j r e. h 
 -- Rule k
 
 module _ {rules rows : List ℕ} {t : Table Span} (lent : Lent rules rows t) (k : ℕ) (r : Rule Span) (h : getElem? t k ≡ some r) where
-  rule-type : getD rules (k * 4 + 2) 0 ≡ r .type
-  rule-type = ap (λ (v : List ℕ). getD v (k * 4 + 2) 0) (lent .heads) ∙ rule-words t k r h .type′
+  rule-type : getD rules (k * ruleWidth + typeWord) 0 ≡ r .type
+  rule-type = ap (λ (v : List ℕ). getD v (k * rowWidth + 2) 0) (lent .heads) ∙ rule-words t k r h .type′
 
-  pub rule-size : getD rules (k * 4 + 3) 0 ≡ size (r .body)
-  rule-size = ap (λ (v : List ℕ). getD v (k * 4 + 3) 0) (lent .heads) ∙ rule-words t k r h .rows′
+  pub rule-size : getD rules (k * ruleWidth + rowsWord) 0 ≡ size (r .body)
+  rule-size = ap (λ (v : List ℕ). getD v (k * rowWidth + 3) 0) (lent .heads) ∙ rule-words t k r h .rows′
 
-  pub rule-tree : {m : List ℕ} → k < length rules / 4 → Ended rules m → At rows (getD m (k * 4 + 3) 0 - 1) (r .body)
+  pub rule-tree : {m : List ℕ} → k < length rules / ruleWidth → Ended rules m → At rows (getD m (k * markWidth + endWord) 0 - 1) (r .body)
   rule-tree b e = rule-stands lent k (record { rule = r; is = h }) b e
 
   module _ (s : Bytes) where
-    pub atomic-no : {m : List ℕ} {v : ℕ} → (getD rules (k * 4 + 2) 0 ≡ 2 → ⊥) → (v ≡ 1 → ⊥) → LoopsOf s t m m v (λ look. ruleOpen look (resolveRule s r))
+    pub atomic-no : {m : List ℕ} {v : ℕ} → (getD rules (k * ruleWidth + typeWord) 0 ≡ 2 → ⊥) → (v ≡ 1 → ⊥) → LoopsOf s t m m v (λ look. ruleOpen look (resolveRule s r))
     atomic-no n z = rw (ne-eqb (r .type) 2 (λ e. n (rule-type ∙ e))) (loops-none z)
 
-    pub atomic-yes : {m m′ : List ℕ} {v : ℕ} → getD rules (k * 4 + 2) 0 ≡ 2 → LoopsOf s t m m′ v (λ look. anyNode (openAt look) (resolve s (r .body))) → LoopsOf s t m m′ v (λ look. ruleOpen look (resolveRule s r))
+    pub atomic-yes : {m m′ : List ℕ} {v : ℕ} → getD rules (k * ruleWidth + typeWord) 0 ≡ 2 → LoopsOf s t m m′ v (λ look. anyNode (openAt look) (resolve s (r .body))) → LoopsOf s t m m′ v (λ look. ruleOpen look (resolveRule s r))
     atomic-yes e l = rw (eq-eqb (r .type) 2 (sym rule-type ∙ e)) l
 
-module _ {rules rows : List ℕ} {text : Bytes} {m : List ℕ} (g : Given rules rows text m) {k end n : ℕ} (b : k < length rules / 4) (e : end ≡ getD m (k * 4 + 3) 0) (f : n ≡ getD rules (k * 4 + 3) 0) where
+module _ {rules rows : List ℕ} {text : Bytes} {m : List ℕ} (g : Given rules rows text m) {k end n : ℕ} (b : k < length rules / ruleWidth) (e : end ≡ getD m (k * markWidth + endWord) 0) (f : n ≡ getD rules (k * ruleWidth + rowsWord) 0) where
   pub rule-fits : n ≤ end
   rule-fits = omega (arith, g .ended .end k b)
 
@@ -116,7 +117,7 @@ pub record RulesSettled (s : Bytes) (t : Table Span) (st st′ : Marks) (k : ℕ
 
 -- the rules before rule k are read, which changed the marks m to m′
 pub record RulesRead (rules rows : List ℕ) (text : Bytes) (m m′ : List ℕ) (k : ℕ) : Type 0 where
-  pub high : k ≤ length rules / 4
+  pub high : k ≤ length rules / ruleWidth
   pub steady : Steady m m′
   pub long : length m′ ≡ length m
   pub settled : (t : Table Span) → Lent rules rows t → Known (resolveTable text t) (marksOf (resolveTable text t) m) → Idle (marksOf (resolveTable text t) m) → RulesSettled text t (marksOf (resolveTable text t) m) (marksOf (resolveTable text t) m′) k
@@ -125,7 +126,7 @@ pub rules-begin : {rules rows : List ℕ} {text : Bytes} {m : List ℕ} → Rule
 rules-begin {m = m} = record { high = omega arith; steady = steady-none m; long = refl; settled = λ t l k id. record { known = k; grows = grows-none; no = λ j r h. absurd (omega arith) } }
 
 module _ {rules rows : List ℕ} {text : Bytes} {m m₁ : List ℕ} {k : ℕ} (inv : RulesRead rules rows text m m₁ k) where
-  module _ (lt : k < length rules / 4) {m₂ : List ℕ} {v : ℕ} (h : (t : Table Span) (r : Rule Span) → Lent rules rows t → getElem? t k ≡ some r → LoopsOf text t m₁ m₂ v (λ look. ruleOpen look (resolveRule text r))) where
+  module _ (lt : k < length rules / ruleWidth) {m₂ : List ℕ} {v : ℕ} (h : (t : Table Span) (r : Rule Span) → Lent rules rows t → getElem? t k ≡ some r → LoopsOf text t m₁ m₂ v (λ look. ruleOpen look (resolveRule text r))) where
     pub rules-met : (t : Table Span) → Lent rules rows t → v ≡ 1 → LoopsOf text t m m₂ v (λ look. any (ruleOpen look) (resolveTable text t))
     rules-met t l e =
         let r = rule-there t (l .heads) k lt in
@@ -151,7 +152,7 @@ module _ {rules rows : List ℕ} {text : Bytes} {m m₁ : List ℕ} {k : ℕ} (i
               more-settled t r x (h t (r .rule) l (r .is) .settled (x .known) (idle-grows id (x .grows)) n);
         }
 
-  pub rules-end : {v : ℕ} → length rules / 4 ≤ k → (v ≡ 1 → ⊥) → (t : Table Span) → Lent rules rows t → LoopsOf text t m m₁ v (λ look. any (ruleOpen look) (resolveTable text t))
+  pub rules-end : {v : ℕ} → length rules / ruleWidth ≤ k → (v ≡ 1 → ⊥) → (t : Table Span) → Lent rules rows t → LoopsOf text t m m₁ v (λ look. any (ruleOpen look) (resolveTable text t))
   rules-end le n t l =
       record {
         met = λ kn id z. absurd (n z);
@@ -182,7 +183,7 @@ cleared n m = marked (λ _. 0) 1 n m
 
 module _ {rules rows : List ℕ} {text : Bytes} {m : List ℕ} (g : Given rules rows text m) where
   abbrev n : ℕ
-  n = length rules / 4
+  n = length rules / ruleWidth
 
   pub cleared-given : Given rules rows text (cleared n m)
   cleared-given =
@@ -190,8 +191,8 @@ module _ {rules rows : List ℕ} {text : Bytes} {m : List ℕ} (g : Given rules 
         table = g .table;
         lent = g .lent;
         inside = g .inside;
-        hashed = hashed-kept (g .hashed) (length-marked (λ _. 0) 1 n m) (λ i. marked-other (λ _. 0) 1 n m (i * 4) (λ j l e. omega arith)) (λ i. marked-other (λ _. 0) 1 n m (i * 4 + 2) (λ j l e. omega arith));
-        ended = record { end = λ i h. marked-other (λ _. 0) 1 n m (i * 4 + 3) (λ j l e. omega arith) ∙ g .ended .end i h };
+        index = index-kept (g .index) (length-marked (λ _. 0) 1 n m) (λ i. marked-other (λ _. 0) 1 n m (i * markWidth) (λ j l e. omega arith)) (λ i. marked-other (λ _. 0) 1 n m (i * markWidth + waysWord) (λ j l e. omega arith));
+        ended = record { end = λ i h. marked-other (λ _. 0) 1 n m (i * markWidth + endWord) (λ j l e. omega arith) ∙ g .ended .end i h };
       }
 
   module _ (t : Table Span) (l : Lent rules rows t) where
@@ -201,7 +202,7 @@ module _ {rules rows : List ℕ} {text : Bytes} {m : List ℕ} (g : Given rules 
       where
         go : (o : Option ℕ) → indexFrom 0 (resolveTable text t) z ≡ o → stateAt (cleared n m) o ≡ 1 → ⊥
         go none q h = omega arith
-        go (some k) q h = omega (arith, marked-at (λ _. 0) 1 n m k (omega arith) (g .hashed .long) (omega (arith, index-below 0 k (resolveTable text t) z q, length-table text t, count t (l .heads))))
+        go (some k) q h = omega (arith, marked-at (λ _. 0) 1 n m k (omega arith) (g .index .long) (omega (arith, index-below 0 k (resolveTable text t) z q, length-table text t, count t (l .heads))))
 
     pub cleared-known : Known (resolveTable text t) (marksOf (resolveTable text t) (cleared n m))
     unfolding marksOf
@@ -209,7 +210,7 @@ module _ {rules rows : List ℕ} {text : Bytes} {m : List ℕ} (g : Given rules 
       where
         go : (y : Bytes) (o : List Bytes) (p : Option ℕ) → indexFrom 0 (resolveTable text t) y ≡ p → 2 ≤ stateAt (cleared n m) p → markOf (nameList (resolveTable text t) o y) ≡ stateAt (cleared n m) p
         go y o none q h = ap markOf (name-none (resolveTable text t) o y (find-index 0 (resolveTable text t) y q))
-        go y o (some k) q h = absurd (omega (arith, marked-at (λ _. 0) 1 n m k (omega arith) (g .hashed .long) (omega (arith, index-below 0 k (resolveTable text t) y q, length-table text t, count t (l .heads)))))
+        go y o (some k) q h = absurd (omega (arith, marked-at (λ _. 0) 1 n m k (omega arith) (g .index .long) (omega (arith, index-below 0 k (resolveTable text t) y q, length-table text t, count t (l .heads)))))
 
     -- WHAT THE READING OF A TABLE SAYS
     module _ {m′ : List ℕ} {v : ℕ} (h : LoopsOf text t (cleared n m) m′ v (λ look. any (ruleOpen look) (resolveTable text t))) where

@@ -11,6 +11,7 @@ use borrow.Author.Tests.{le-leb, lt-leb, leb-true}
 use lib.ListN.{length, getD, set, getElem?}
 use lib.Seq.{getD-set-same, getD-set-other}
 use lib.Dec.{leb}
+use Rattle.grammar.specs.Numbers.{ruleWidth, markWidth}
 use Rattle.grammar.specs.Basic.{Bytes, member, bytes-discrete}
 use Rattle.grammar.specs.Tree.{Lit, Str, Insens, Ident, Seq, Choice, E, lit, fixed, skip, un, bin}
 use Rattle.grammar.specs.Rows.{Span}
@@ -21,7 +22,7 @@ use Rattle.grammar.proofs.Logic.{none-some, some-eq}
 use Rattle.rows.proofs.Laws.{Found}
 use Rattle.rows.proofs.Cells.{lit-shape}
 use Rattle.rows.proofs.Views.{as-lit, lit-is}
-use Rattle.names.specs.Names.{nameOf, Hashed, Ended, First, IsName}
+use Rattle.names.specs.Names.{nameOf, AllIndexed, Ended, First, IsName, memoryWord, endWord}
 use Rattle.skipper.specs.Memory.{markOf, nameList, Known}
 use Rattle.skipper.specs.Lends.{indexFrom, stateAt, marksOf, capped, listsOf, Lent}
 use Rattle.skipper.specs.Ways.{Spells, Gives, toldBy, toldAt, TargetsOf, Targets, Leading, Relisted}
@@ -132,27 +133,27 @@ pub relisted-more : {m m₁ m₂ : List ℕ} → Relisted m m₁ → Relisted m�
 relisted-more g h = record { steady = steady-more (g .steady) (h .steady); lists = λ i. h .lists i ∙ g .lists i }
 
 -- the memory of a list is written
-module _ (m : List ℕ) (i v : ℕ) (l : i * 4 + 1 < length m) (h : 3 ≤ v) where
-  pub relisted-set : 3 ≤ getD m (i * 4 + 1) 0 → Relisted m (set m (i * 4 + 1) v)
+module _ (m : List ℕ) (i v : ℕ) (l : i * markWidth + memoryWord < length m) (h : 3 ≤ v) where
+  pub relisted-set : 3 ≤ getD m (i * markWidth + memoryWord) 0 → Relisted m (set m (i * markWidth + memoryWord) v)
   relisted-set k = record { steady = steady-set m i v l (omega arith); lists = λ j. go j (ℕ-discrete j i) }
     where
-      go : (j : ℕ) → Dec (j ≡ i) → capped (getD (set m (i * 4 + 1) v) (j * 4 + 1) 0) ≡ capped (getD m (j * 4 + 1) 0)
-      go j (yes e) = rw (e, getD-set-same m (i * 4 + 1) v 0 l) (capped-list v h ∙ sym (capped-list (getD m (i * 4 + 1) 0) k))
-      go j (no n) = ap capped (getD-set-other m (i * 4 + 1) (j * 4 + 1) v 0 (λ e. n (omega arith)))
+      go : (j : ℕ) → Dec (j ≡ i) → capped (getD (set m (i * markWidth + memoryWord) v) (j * markWidth + memoryWord) 0) ≡ capped (getD m (j * markWidth + memoryWord) 0)
+      go j (yes e) = rw (e, getD-set-same m (i * markWidth + memoryWord) v 0 l) (capped-list v h ∙ sym (capped-list (getD m (i * markWidth + memoryWord) 0) k))
+      go j (no n) = ap capped (getD-set-other m (i * markWidth + memoryWord) (j * markWidth + memoryWord) v 0 (λ e. n (omega arith)))
 
-  pub targets-set : {n : ℕ} {t : Table Bytes} → Gives t i (v - 3) → ((j : ℕ) → j < n → (j ≡ i → ⊥) → Gives t j (toldAt m j)) → TargetsOf n t (set m (i * 4 + 1) v)
+  pub targets-set : {n : ℕ} {t : Table Bytes} → Gives t i (v - 3) → ((j : ℕ) → j < n → (j ≡ i → ⊥) → Gives t j (toldAt m j)) → TargetsOf n t (set m (i * markWidth + memoryWord) v)
   targets-set {n} {t} g k = record { to = λ j b. go j b (ℕ-discrete j i) }
     where
-      go : (j : ℕ) → j < n → Dec (j ≡ i) → Gives t j (toldAt (set m (i * 4 + 1) v) j)
-      go j b (yes e) = rw (e, getD-set-same m (i * 4 + 1) v 0 l, told-list v i h) g
-      go j b (no c) = rw (getD-set-other m (i * 4 + 1) (j * 4 + 1) v 0 (λ e. c (omega arith))) (k j b c)
+      go : (j : ℕ) → j < n → Dec (j ≡ i) → Gives t j (toldAt (set m (i * markWidth + memoryWord) v) j)
+      go j b (yes e) = rw (e, getD-set-same m (i * markWidth + memoryWord) v 0 l, told-list v i h) g
+      go j b (no c) = rw (getD-set-other m (i * markWidth + memoryWord) (j * markWidth + memoryWord) v 0 (λ e. c (omega arith))) (k j b c)
 
 -- rule i of a lent table
-module _ {rules rows : List ℕ} {t : Table Span} (l : Lent rules rows t) (s : Bytes) {i : ℕ} (b : i < length rules / 4) where
+module _ {rules rows : List ℕ} {t : Table Span} (l : Lent rules rows t) (s : Bytes) {i : ℕ} (b : i < length rules / ruleWidth) where
   pub rule-itself : Gives (resolveTable s t) i i
   rule-itself = let r = rule-there t (l .heads) i b in gives-self (resolveRule s (r .rule)) (rule-resolved s t i (r .rule) (r .is))
 
-  pub rule-next : {m : List ℕ} {k x y n j end : ℕ} → Ended rules m → end ≡ getD m (i * 4 + 3) 0 → Found rows (end - 1) k x y n → k ≡ 3 → First (length rules / 4) rules s (bytesAt s (x, y)) j → Gives (resolveTable s t) i j
+  pub rule-next : {m : List ℕ} {k x y n j end : ℕ} → Ended rules m → end ≡ getD m (i * markWidth + endWord) 0 → Found rows (end - 1) k x y n → k ≡ 3 → First (length rules / ruleWidth) rules s (bytesAt s (x, y)) j → Gives (resolveTable s t) i j
   rule-next {m} {x = x} {y = y} {j = j} {end = end} d e f z g =
       let r = rule-there t (l .heads) i b in
       let q = rule-there t (l .heads) j (g .below) in
@@ -160,46 +161,46 @@ module _ {rules rows : List ℕ} {t : Table Span} (l : Lent rules rows t) (s : B
       gives-named (resolveRule s (r .rule)) (resolveRule s (q .rule)) (bytesAt s (x, y)) (rule-resolved s t i (r .rule) (r .is)) (ap (resolve s) (lit-is Ident v z)) (rule-resolved s t j (q .rule) (q .is)) (name-found t (l .heads) s m (bytesAt s (x, y)) g q)
 
 -- a memory that tells no rule
-pub targets-kept : {m : List ℕ} {i : ℕ} {t : Table Bytes} → getD m (i * 4 + 1) 0 < 3 → Gives t i i → TargetsOf i t m → TargetsOf (i + 1) t m
+pub targets-kept : {m : List ℕ} {i : ℕ} {t : Table Bytes} → getD m (i * markWidth + memoryWord) 0 < 3 → Gives t i i → TargetsOf i t m → TargetsOf (i + 1) t m
 targets-kept {m} {i} {t} h g k = record { to = λ j b. go j b (ℕ-discrete j i) }
   where
     go : (j : ℕ) → j < i + 1 → Dec (j ≡ i) → Gives t j (toldAt m j)
-    go j b (yes e) = rw (e, told-self (getD m (i * 4 + 1) 0) i h) g
+    go j b (yes e) = rw (e, told-self (getD m (i * markWidth + memoryWord) 0) i h) g
     go j b (no c) = k .to j (omega arith)
 
 -- one that tells rule j
-pub targets-told : {m : List ℕ} {i j v : ℕ} {t : Table Bytes} → i * 4 + 1 < length m → v ≡ 3 + j → Gives t i j → TargetsOf i t m → TargetsOf (i + 1) t (set m (i * 4 + 1) v)
+pub targets-told : {m : List ℕ} {i j v : ℕ} {t : Table Bytes} → i * markWidth + memoryWord < length m → v ≡ 3 + j → Gives t i j → TargetsOf i t m → TargetsOf (i + 1) t (set m (i * markWidth + memoryWord) v)
 targets-told {m} {i} {j} {v} {t} l e g k = let q : v - 3 ≡ j = omega arith in targets-set m i v l (omega arith) (rw q g) (λ o b c. k .to o (omega arith))
 
 -- one that tells what the rule that it told is told
-module _ (m : List ℕ) (i k w : ℕ) (e : k ≡ toldAt m i) (d : w ≡ getD m (k * 4 + 1) 0) (h : 3 ≤ w) (l : i * 4 + 1 < length m) where
-  was-list : 3 ≤ getD m (i * 4 + 1) 0
-  was-list = go (decLe 3 (getD m (i * 4 + 1) 0))
+module _ (m : List ℕ) (i k w : ℕ) (e : k ≡ toldAt m i) (d : w ≡ getD m (k * markWidth + memoryWord) 0) (h : 3 ≤ w) (l : i * markWidth + memoryWord < length m) where
+  was-list : 3 ≤ getD m (i * markWidth + memoryWord) 0
+  was-list = go (decLe 3 (getD m (i * markWidth + memoryWord) 0))
     where
-      go : Dec (3 ≤ getD m (i * 4 + 1) 0) → 3 ≤ getD m (i * 4 + 1) 0
+      go : Dec (3 ≤ getD m (i * markWidth + memoryWord) 0) → 3 ≤ getD m (i * markWidth + memoryWord) 0
       go (yes b) = b
       go (no b) =
-          let z : k ≡ i = e ∙ told-self (getD m (i * 4 + 1) 0) i (omega arith) in
-          absurd (b (rw (d ∙ ap (λ (n : ℕ). getD m (n * 4 + 1) 0) z) at h))
+          let z : k ≡ i = e ∙ told-self (getD m (i * markWidth + memoryWord) 0) i (omega arith) in
+          absurd (b (rw (d ∙ ap (λ (n : ℕ). getD m (n * markWidth + memoryWord) 0) z) at h))
 
-  pub passed-relisted : Relisted m (set m (i * 4 + 1) w)
+  pub passed-relisted : Relisted m (set m (i * markWidth + memoryWord) w)
   passed-relisted = relisted-set m i w l h was-list
 
-  pub passed-targets : (t : Table Bytes) → i < length t → Targets t m → Targets t (set m (i * 4 + 1) w)
+  pub passed-targets : (t : Table Bytes) → i < length t → Targets t m → Targets t (set m (i * markWidth + memoryWord) w)
   passed-targets t b g =
       let x : Gives t i k = rw e (g .to i b) in
       let z : toldAt m k ≡ w - 3 = rw (← d) (told-list w k h) in
       targets-set m i w l h (gives-then x (rw z at (g .to k (gives-within x)))) (λ j c n. g .to j c)
 
 -- the expression that is read for the strings of a name
-module _ {rules w : List ℕ} {t : Table Span} (l : Lent rules w t) (u : Bytes) {m : List ℕ} (h : Targets (resolveTable u t) m) (x : Bytes) {i k : ℕ} (f : First (length rules / 4) rules u x i) (e : k ≡ toldAt m i) where
+module _ {rules w : List ℕ} {t : Table Span} (l : Lent rules w t) (u : Bytes) {m : List ℕ} (h : Targets (resolveTable u t) m) (x : Bytes) {i k : ℕ} (f : First (length rules / ruleWidth) rules u x i) (e : k ≡ toldAt m i) where
   told-gives : Gives (resolveTable u t) i k
   told-gives = rw e (h .to i (omega (arith, f .below, length-table u t, count t (l .heads))))
 
-  pub told-below : k < length rules / 4
+  pub told-below : k < length rules / ruleWidth
   told-below = omega (arith, gives-within told-gives, length-table u t, count t (l .heads))
 
-  pub told-body : {end : ℕ} → Ended rules m → end ≡ getD m (k * 4 + 3) 0 → BodyAt (end - 1) w u t x
+  pub told-body : {end : ℕ} → Ended rules m → end ≡ getD m (k * markWidth + endWord) 0 → BodyAt (end - 1) w u t x
   told-body {end} d c =
       let r = rule-there t (l .heads) k told-below in
       let q = rule-there t (l .heads) i (f .below) in
@@ -231,12 +232,12 @@ search-name rules u x (suc n) = go (search-name rules u x n) (bytes-discrete (na
 pub spells-known : {rules w : List ℕ} {t : Table Span} {ss : List Bytes} (u x : Bytes) (n : ℕ) → Lent rules w t → Spells (resolveTable u t) n (λ look. look x) ss → IsName rules u x
 spells-known {rules} {t = t} u x n l h =
     ⊎-elim (λ f. record { rule = f .rule; is = f .is }) (λ k. absurd (name-known x n h (name-missing t (l .heads) u [] x k)))
-    (search-name rules u x (length rules / 4))
+    (search-name rules u x (length rules / ruleWidth))
 
 -- ---- what loops over the rules keep
 
 pub record Telling (rules rows : List ℕ) (text : Bytes) (m m′ : List ℕ) (i : ℕ) : Type 0 where
-  pub high : i ≤ length rules / 4
+  pub high : i ≤ length rules / ruleWidth
   pub long : length m′ ≡ length m
   pub relisted : Relisted m m′
   pub targets : (t : Table Span) → Lent rules rows t → TargetsOf i (resolveTable text t) m′

@@ -6,12 +6,13 @@ use mathlib.Core.Option.{Option, none, some}
 use Prim.Native.Nat.{ℕ, suc, _+_, _*_, _≤_}
 use lib.ListN.{length, getD}
 use lib.Dec.{eqb, leb}
+use Rattle.grammar.specs.Numbers.{markWidth}
 use Rattle.grammar.specs.Basic.{Bytes, sameBytes}
 use Rattle.grammar.specs.Rows.{Span}
 use Rattle.grammar.specs.Table.{Table, ruleWords, rowWords, resolveTable}
 use Rattle.grammar.specs.Lists.{Reading}
 use Rattle.rows.specs.Rows.{Inside}
-use Rattle.names.specs.Names.{Hashed, Ended}
+use Rattle.names.specs.Names.{AllIndexed, Ended, memoryWord, waysWord, endWord}
 use Rattle.skipper.specs.Memory.{Marks, Known, Reads}
 
 -- the number of the rule with that name, where the first is numbered i
@@ -22,7 +23,7 @@ indexFrom i (r ∷ rs) x = cond (sameBytes (r .name) x) (some i) (indexFrom (suc
 -- a name of no rule has no list
 abbrev pub stateAt : List ℕ → Option ℕ → ℕ
 stateAt m none = 2
-stateAt m (some i) = getD m (i * 4 + 1) 0
+stateAt m (some i) = getD m (i * markWidth + memoryWord) 0
 
 -- the marks m as a memory of names
 unfoldable pub marksOf : Table Bytes → List ℕ → Marks
@@ -48,7 +49,7 @@ pub record Given (rules rows : List ℕ) (text : Bytes) (marks : List ℕ) : Typ
   pub table : Table Span
   pub lent : Lent rules rows table
   pub inside : Inside rows (length text)
-  pub hashed : Hashed rules text marks
+  pub index : AllIndexed rules text marks
   pub ended : Ended rules marks
 
 -- how many of these are 0: a memory that is written has fewer
@@ -59,9 +60,9 @@ zeros (w ∷ m) = cond (eqb w 0) 1 0 + zeros m
 -- a reading changes nothing but memories, and forgets nothing
 pub record Steady (m m′ : List ℕ) : Type 0 where
   pub fewer : zeros m′ ≤ zeros m
-  pub hash : (i : ℕ) → getD m′ (i * 4) 0 ≡ getD m (i * 4) 0
-  pub chain : (i : ℕ) → getD m′ (i * 4 + 2) 0 ≡ getD m (i * 4 + 2) 0
-  pub end : (i : ℕ) → getD m′ (i * 4 + 3) 0 ≡ getD m (i * 4 + 3) 0
+  pub slots : (i : ℕ) → getD m′ (i * markWidth) 0 ≡ getD m (i * markWidth) 0
+  pub ways : (i : ℕ) → getD m′ (i * markWidth + waysWord) 0 ≡ getD m (i * markWidth + waysWord) 0
+  pub end : (i : ℕ) → getD m′ (i * markWidth + endWord) 0 ≡ getD m (i * markWidth + endWord) 0
 
 -- the same of a reading that answers a
 pub record Ran (m m′ : List ℕ) (a : ℕ) : Type 0 where

@@ -5,8 +5,9 @@ use mathlib.Core.List.{List}
 use mathlib.Core.Option.{some}
 use Prim.Native.Nat.{ℕ, _+_, _-_, _/_, _^_, _≤_, _<_}
 use lib.ListN.{length}
+use Rattle.grammar.specs.Numbers.{rowWidth}
 use Rattle.grammar.specs.Basic.{Bytes}
-use Rattle.grammar.specs.Tree.{Un, Expr, E, anyNode}
+use Rattle.grammar.specs.Tree.{Head, Un, Expr, E, anyNode}
 use Rattle.grammar.specs.Rows.{Span}
 use Rattle.grammar.specs.Text.{bytesAt, resolve}
 use Rattle.grammar.specs.Table.{Table, resolveTable}
@@ -17,7 +18,7 @@ use Rattle.rows.specs.declared.Shape.the-variants.{Lit, Num, One, Two, Skips}
 use Rattle.rows.specs.Rows.{At, shapeOf, kindAt, xAt, yAt}
 use Rattle.writing.specs.declared.Place.{Place}
 use Rattle.writing.specs.declared.Wrote.{Wrote}
-use Rattle.writing.specs.Writes.{Written, Answer}
+use Rattle.writing.specs.Writes.{Written, RowAnswer, Answer}
 use Rattle.chains.specs.Runs.{wrap}
 use Rattle.skipper.specs.Memory.{Known, byMarks}
 use Rattle.skipper.specs.Lends.{listsOf, Lent}
@@ -135,11 +136,15 @@ FallAnswer (Forked base k) t m w s root r = FellFork t m w s root base k r
 -- the rows after `base` up to `root` can be read, and q lies after p in the area o, whose counts are words
 pub record Rising (w : List ℕ) (base root : ℕ) (p q : Place) (o : List ℕ) : Type 0 where
   pub order : base ≤ root
-  pub inside : root < length w / 4
+  pub inside : root < length w / rowWidth
   pub after : p .rows ≤ q .rows
-  pub room : q .rows ≤ length o / 4
+  pub room : q .rows ≤ length o / rowWidth
   pub words : length o < 2 ^ 32
 
 -- whatever tree stands from p to q, the nodes us stand over it where they fit, and the answer is full where they do not
 abbrev pub RisenAnswer : Wrote → (q p : Place) → List Un → (o₁ o₂ : List ℕ) → Type 0
 RisenAnswer a q p us o₁ o₂ = (e : E) (o t t₁ : List ℕ) → Written q p e o o₁ t t₁ → Answer a p (wrap us e) o o₂ t t₁
+
+-- the same of whatever tree e a row h over what stands from p to q makes
+abbrev pub CrownedAnswer : Wrote → (q p : Place) → Head → List Un → (o₁ o₂ : List ℕ) → Type 0
+CrownedAnswer a q p h us o₁ o₂ = (e : E) (o t t₁ : List ℕ) → ((b : Wrote) (o′ : List ℕ) → RowAnswer b q h (q .rows - p .rows + 1) o₁ o′ → Answer b p e o o′ t t₁) → Answer a p (wrap us e) o o₂ t t₁

@@ -6,6 +6,8 @@ use mathlib.Core.Option.{some}
 use Prim.Native.Nat.{ℕ, _+_, _-_, _*_, _<_}
 use lib.ListN.{length, getD, getElem?}
 use lib.Dec.{leb}
+use Rattle.names.specs.Names.{memoryWord}
+use Rattle.grammar.specs.Numbers.{markWidth}
 use Rattle.grammar.specs.Basic.{Bytes}
 use Rattle.grammar.specs.Rows.{Span}
 use Rattle.grammar.specs.Table.{Rule, Table, resolveTable}
@@ -28,7 +30,7 @@ abbrev pub toldBy : ℕ → ℕ → ℕ
 toldBy w i = cond (leb 3 w) (w - 3) i
 
 abbrev pub toldAt : List ℕ → ℕ → ℕ
-toldAt m i = toldBy (getD m (i * 4 + 1) 0) i
+toldAt m i = toldBy (getD m (i * markWidth + memoryWord) 0) i
 
 -- each of the first n rules is told a rule that gives its strings
 pub record TargetsOf (n : ℕ) (t : Table Bytes) (m : List ℕ) : Type 0 where
@@ -46,7 +48,7 @@ pub record Leading (n : ℕ) (m : List ℕ) : Type 0 where
 -- no more than memories of lists may differ
 pub record Relisted (m m′ : List ℕ) : Type 0 where
   pub steady : Steady m m′
-  pub lists : (i : ℕ) → capped (getD m′ (i * 4 + 1) 0) ≡ capped (getD m (i * 4 + 1) 0)
+  pub lists : (i : ℕ) → capped (getD m′ (i * markWidth + memoryWord) 0) ≡ capped (getD m (i * markWidth + memoryWord) 0)
 
 -- a table is lent with its marks, and each of its rules is told a rule that gives its strings
 pub record Led (rules rows : List ℕ) (text : Bytes) (marks : List ℕ) : Type 0 where

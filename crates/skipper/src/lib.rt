@@ -6,16 +6,17 @@ ghost use mathlib.Core.List.{List};
 ghost use Prim.Native.Nat.{ℕ, _+_, _-_, _*_, _/_, _^_, _≤_, _<_};
 ghost use mathlib.Core.Option.{some};
 ghost use lib.ListN.{length, getD, getElem?};
+ghost use Rattle.grammar.specs.Numbers.{ruleWidth, rowWidth, markWidth, kStr, kIdent, kRep};
 ghost use Rattle.grammar.specs.Basic.{Bytes, any};
 ghost use Rattle.grammar.specs.Tree.{Expr, Un, Rep, un, skip, anyNode, asNegPred};
 ghost use Rattle.grammar.specs.Rows.{Span};
 ghost use Rattle.grammar.specs.Text.{bytesAt, resolve};
-ghost use Rattle.grammar.specs.Table.{Table, Rule, ruleWords, resolveRule, resolveTable};
+ghost use Rattle.grammar.specs.Table.{Table, Rule, ruleWords, resolveRule, resolveTable, Atomic};
 ghost use Rattle.grammar.specs.Lists.{strings, readLeft, readIn, loopOver, skipList};
 ghost use Rattle.grammar.specs.Steps.{rotate, isAtomic, topDown, orSame, skip?, skipTo};
-ghost use Rattle.rows.specs.Rows.{Inside, At, Stands, kindAt, sizeAt};
+ghost use Rattle.rows.specs.Rows.{Inside, At, Stands, kindAt, xAt, yAt, sizeAt};
 ghost use Rattle.writing.specs.Writes.{Room, RowAnswer, LitAnswer, StrsAnswer, Answer};
-ghost use Rattle.names.specs.Names.{First, Hashed, IsName, marked};
+ghost use Rattle.names.specs.Names.{First, Finds, AllIndexed, IsName, marked, memoryWord};
 ghost use Rattle.chains.specs.Runs.{wrap};
 ghost use Rattle.skipper.specs.Memory.{byMarks};
 ghost use Rattle.skipper.specs.Lends.{listsOf, Given, Lent, Ran, ReadsOf};
@@ -23,8 +24,26 @@ ghost use Rattle.skipper.specs.Loops.{LoopAnswer, TreeRows, openAt, rule
 ghost use Rattle.skipper.specs.Ways.{Spells, Gives, toldAt, TargetsOf, Targets, Leading, Relisted, Led};
 ghost use Rattle.skipper.specs.Lists.{ListsAnswer};
 ghost use Rattle.skipper.specs.declared.Node.the-variants.{Pair};
-ghost use Rattle.skipper.specs.Skips.{nodeOf, isList, ListAnswer, Spelled, literalAt, Named, BodyAt, Skipped, Settles, Settling, FallAnswer, Rising, RisenAnswer};
+ghost use Rattle.skipper.specs.Skips.{nodeOf, isList, ListAnswer, Spelled, literalAt, Named, BodyAt, Skipped, Settles, Settling, FallAnswer, Rising, RisenAnswer, CrownedAnswer};
+use grammar::ATOMIC;
+use grammar::CHOICE;
+use grammar::IDENT;
+use grammar::MARK_WIDTH;
+use grammar::NEG_PRED;
+use grammar::REP;
+use grammar::ROW_WIDTH;
+use grammar::ROWS;
+use grammar::RULE_WIDTH;
+use grammar::SEQ;
+use grammar::SIZE;
+use grammar::SKIP;
+use grammar::STR;
+use grammar::TYPE;
+use grammar::X;
+use grammar::Y;
+use names::END;
 use names::Found;
+use names::MEMORY;
 use rows::Lookup;
 use rows::Shape;
 use rows::wide;
@@ -63,19 +82,78 @@ enum Fallen {
     Forked { base: usize, kind: u32 },
 }
 
+// The kind of row i.
+fn kind_at(rows: &[u32], i: usize) -> u32
+    requires { ⌜ i < length (now rows) / rowWidth ⌝ }
+    ensures { λ k. ⌜ k ≡ kindAt (now (rows .entry)) i ⌝ }
+{
+    rows[i * ROW_WIDTH]
+}
+
+// Where the literal of row i begins in the text.
+fn x_at(rows: &[u32], i: usize) -> usize
+    requires { ⌜ i < length (now rows) / rowWidth ⌝ }
+    ensures { λ x. ⌜ x ≡ xAt (now (rows .entry)) i ⌝ }
+{
+    wide(rows[i * ROW_WIDTH + X])
+}
+
+// How many bytes it has.
+fn y_at(rows: &[u32], i: usize) -> usize
+    requires { ⌜ i < length (now rows) / rowWidth ⌝ }
+    ensures { λ y. ⌜ y ≡ yAt (now (rows .entry)) i ⌝ }
+{
+    wide(rows[i * ROW_WIDTH + Y])
+}
+
+// The row of the left child of row `root`, which has two.
+fn left_of(rows: &[u32], root: usize) -> usize
+    requires { ⌜ Stands (now rows) root ⌝ }
+    requires { ⌜ nodeOf (kindAt (now rows) root) ≡ Pair ⌝ }
+    ensures { λ i. ⌜ i ≡ root - 1 - sizeAt (now (rows .entry)) (root - 1) ⌝ }
+{
+    let right = root - 1;
+    right - wide(rows[right * ROW_WIDTH + SIZE])
+}
+
+// The rule of the table with the text `given` that the Ident of row `root` names.
+fn rule_at(
+    rules: &[u32],
+    given: &[u8],
+    marks: &[u32],
+    rows: &[u32],
+    text: &[u8],
+    root: usize,
+) -> Found
+    requires { ⌜ AllIndexed (now rules) (now given) (now marks) ⌝ }
+    requires { ⌜ Inside (now rows) (length (now text)) ⌝ }
+    requires { ⌜ root < length (now rows) / rowWidth ⌝ }
+    requires { ⌜ kindAt (now rows) root ≡ kIdent ⌝ }
+    ensures { λ r. ⌜ Finds (length (now (rules .entry)) / ruleWidth) (now (rules .entry)) (now (given .entry)) (literalAt (now (rows .entry)) (now (text .entry)) root) r ⌝ }
+{
+    names::find_rule(
+        rules,
+        given,
+        marks,
+        text,
+        x_at(rows, root),
+        y_at(rows, root),
+    )
+}
+
 // Reads rule i, which was not read.
 fn read_rule(rules: &[u32], rows: &[u32], text: &[u8], marks: &mut [u32], i: usize) -> u32
     requires { ⌜ Given (now rules) (now rows) (now text) (now marks) ⌝ }
-    requires { ⌜ i < length (now rules) / 4 ⌝ }
-    requires { ⌜ getD (now marks) (i * 4 + 1) 0 ≡ 0 ⌝ }
+    requires { ⌜ i < length (now rules) / ruleWidth ⌝ }
+    requires { ⌜ getD (now marks) (i * markWidth + memoryWord) 0 ≡ 0 ⌝ }
     ensures { λ a. ⌜ Ran (now (marks .entry)) (now (marks .exit)) a ⌝ }
-    ensures { λ a. ⌜ ((t : Table Span) (x : Bytes) → Lent (now (rules .entry)) (now (rows .entry)) t → First (length (now (rules .entry)) / 4) (now (rules .entry)) (now (text .entry)) x i → ReadsOf (now (text .entry)) t (now (marks .entry)) (now (marks .exit)) a (λ look. look x)) ⌝ }
+    ensures { λ a. ⌜ ((t : Table Span) (x : Bytes) → Lent (now (rules .entry)) (now (rows .entry)) t → First (length (now (rules .entry)) / ruleWidth) (now (rules .entry)) (now (text .entry)) x i → ReadsOf (now (text .entry)) t (now (marks .entry)) (now (marks .exit)) a (λ look. look x)) ⌝ }
 {
-    let at = i * 4;
-    let end = wide(marks[at + 3]);
-    marks[at + 1] = AGAIN;
+    let at = i * MARK_WIDTH;
+    let end = wide(marks[at + END]);
+    marks[at + MEMORY] = AGAIN;
     let a = read_in(rules, rows, text, marks, end - 1);
-    marks[at + 1] = a;
+    marks[at + MEMORY] = a;
     a
 }
 
@@ -86,25 +164,17 @@ fn read_leaf(rules: &[u32], rows: &[u32], text: &[u8], marks: &mut [u32], root: 
     ensures { λ a. ⌜ Ran (now (marks .entry)) (now (marks .exit)) a ⌝ }
     ensures { λ a. ⌜ ((t : Table Span) (r : Expr Span) → Lent (now (rules .entry)) (now (rows .entry)) t → At (now (rows .entry)) root r → ReadsOf (now (text .entry)) t (now (marks .entry)) (now (marks .exit)) a (λ look. readLeft look (resolve (now (text .entry)) r))) ⌝ }
 {
-    let Lookup::Row {
-        kind,
-        x,
-        y,
-        size: _,
-    } = rows::row_at(rows, root)
-    else {
-        return AGAIN;
-    };
-    if kind == 0 {
+    let kind = kind_at(rows, root);
+    if kind == STR {
         return LIST;
     }
-    if kind != 3 {
+    if kind != IDENT {
         return NONE;
     }
-    let Found::At(i) = names::find_rule(rules, text, marks, text, wide(x), wide(y)) else {
+    let Found::At(i) = rule_at(rules, text, marks, rows, text, root) else {
         return NONE;
     };
-    let mark = marks[i * 4 + 1];
+    let mark = marks[i * MARK_WIDTH + MEMORY];
     if mark != 0 {
         return mark;
     }
@@ -118,33 +188,14 @@ fn read_in(rules: &[u32], rows: &[u32], text: &[u8], marks: &mut [u32], root: us
     ensures { λ a. ⌜ Ran (now (marks .entry)) (now (marks .exit)) a ⌝ }
     ensures { λ a. ⌜ ((t : Table Span) (r : Expr Span) → Lent (now (rules .entry)) (now (rows .entry)) t → At (now (rows .entry)) root r → ReadsOf (now (text .entry)) t (now (marks .entry)) (now (marks .exit)) a (λ look. readIn look (resolve (now (text .entry)) r))) ⌝ }
 {
-    let Lookup::Row {
-        kind,
-        x: _,
-        y: _,
-        size: _,
-    } = rows::row_at(rows, root)
-    else {
-        return AGAIN;
-    };
-    if kind != 9 {
+    if kind_at(rows, root) != CHOICE {
         return read_leaf(rules, rows, text, marks, root);
     }
-    let right = root - 1;
-    let Lookup::Row {
-        kind: _,
-        x: _,
-        y: _,
-        size: n,
-    } = rows::row_at(rows, right)
-    else {
-        return AGAIN;
-    };
-    let a = read_leaf(rules, rows, text, marks, right - wide(n));
+    let a = read_leaf(rules, rows, text, marks, left_of(rows, root));
     if a != LIST {
         return a;
     }
-    read_in(rules, rows, text, marks, right)
+    read_in(rules, rows, text, marks, root - 1)
 }
 
 // Reads the expression of a loop, which counts as rotated: the leaves of its Choice tree from left to right.
@@ -154,33 +205,14 @@ fn read_leaves(rules: &[u32], rows: &[u32], text: &[u8], marks: &mut [u32], root
     ensures { λ a. ⌜ Ran (now (marks .entry)) (now (marks .exit)) a ⌝ }
     ensures { λ a. ⌜ ((t : Table Span) (r : Expr Span) → Lent (now (rules .entry)) (now (rows .entry)) t → At (now (rows .entry)) root r → ReadsOf (now (text .entry)) t (now (marks .entry)) (now (marks .exit)) a (λ look. readIn look (rotate (resolve (now (text .entry)) r)))) ⌝ }
 {
-    let Lookup::Row {
-        kind,
-        x: _,
-        y: _,
-        size: _,
-    } = rows::row_at(rows, root)
-    else {
-        return AGAIN;
-    };
-    if kind != 9 {
+    if kind_at(rows, root) != CHOICE {
         return read_leaf(rules, rows, text, marks, root);
     }
-    let right = root - 1;
-    let Lookup::Row {
-        kind: _,
-        x: _,
-        y: _,
-        size: n,
-    } = rows::row_at(rows, right)
-    else {
-        return AGAIN;
-    };
-    let first = read_leaves(rules, rows, text, marks, right - wide(n));
+    let first = read_leaves(rules, rows, text, marks, left_of(rows, root));
     if first != LIST {
         return first;
     }
-    read_leaves(rules, rows, text, marks, right)
+    read_leaves(rules, rows, text, marks, root - 1)
 }
 
 // The row of e where !e ~ ANY stands at `root`.
@@ -189,32 +221,14 @@ fn in_loop(rows: &[u32], text: &[u8], root: usize) -> Loop
     requires { ⌜ Stands (now rows) root ⌝ }
     ensures { λ a. ⌜ ((r : Expr Span) → At (now (rows .entry)) root r → LoopAnswer a (now (rows .entry)) (now (text .entry)) (loopOver (un Rep (resolve (now (text .entry)) r)))) ⌝ }
 {
-    let Lookup::Row {
-        kind,
-        x: _,
-        y: _,
-        size: _,
-    } = rows::row_at(rows, root)
-    else {
-        return Loop::Nothing;
-    };
-    if kind != 8 {
+    if kind_at(rows, root) != SEQ {
         return Loop::Nothing;
     }
     let right = root - 1;
-    let Lookup::Row {
-        kind: k,
-        x,
-        y,
-        size: _,
-    } = rows::row_at(rows, right)
-    else {
-        return Loop::Nothing;
-    };
-    if k != 3 {
+    if kind_at(rows, right) != IDENT {
         return Loop::Nothing;
     }
-    if names::is_any(text, wide(x), wide(y)) {
+    if names::is_any(text, x_at(rows, right), y_at(rows, right)) {
         after_not(rows, right - 1)
     } else {
         Loop::Nothing
@@ -226,16 +240,7 @@ fn after_not(rows: &[u32], root: usize) -> Loop
     requires { ⌜ Stands (now rows) root ⌝ }
     ensures { λ a. ⌜ ((s : Bytes) (r : Expr Span) → At (now (rows .entry)) root r → LoopAnswer a (now (rows .entry)) s (asNegPred (resolve s r))) ⌝ }
 {
-    let Lookup::Row {
-        kind,
-        x: _,
-        y: _,
-        size: _,
-    } = rows::row_at(rows, root)
-    else {
-        return Loop::Nothing;
-    };
-    if kind != 7 {
+    if kind_at(rows, root) != NEG_PRED {
         return Loop::Nothing;
     }
     Loop::Over(root - 1)
@@ -248,16 +253,7 @@ fn read_loop(rules: &[u32], rows: &[u32], text: &[u8], marks: &mut [u32], i: usi
     ensures { λ a. ⌜ Ran (now (marks .entry)) (now (marks .exit)) a ⌝ }
     ensures { λ a. ⌜ ((t : Table Span) (r : Expr Span) → Lent (now (rules .entry)) (now (rows .entry)) t → At (now (rows .entry)) i r → LoopsOf (now (text .entry)) t (now (marks .entry)) (now (marks .exit)) a (λ look. openAt look (resolve (now (text .entry)) r))) ⌝ }
 {
-    let Lookup::Row {
-        kind,
-        x: _,
-        y: _,
-        size: _,
-    } = rows::row_at(rows, i)
-    else {
-        return LIST;
-    };
-    if kind != 11 {
+    if kind_at(rows, i) != REP {
         return LIST;
     }
     let Loop::Over(e) = in_loop(rows, text, i - 1) else {
@@ -294,16 +290,16 @@ fn read_loops(
 // Reads the loops of rule k, if it is Atomic.
 fn read_atomic(rules: &[u32], rows: &[u32], text: &[u8], marks: &mut [u32], k: usize) -> u32
     requires { ⌜ Given (now rules) (now rows) (now text) (now marks) ⌝ }
-    requires { ⌜ k < length (now rules) / 4 ⌝ }
+    requires { ⌜ k < length (now rules) / ruleWidth ⌝ }
     ensures { λ a. ⌜ Ran (now (marks .entry)) (now (marks .exit)) a ⌝ }
     ensures { λ a. ⌜ ((t : Table Span) (r : Rule Span) → Lent (now (rules .entry)) (now (rows .entry)) t → getElem? t k ≡ some r → LoopsOf (now (text .entry)) t (now (marks .entry)) (now (marks .exit)) a (λ look. ruleOpen look (resolveRule (now (text .entry)) r))) ⌝ }
 {
-    let at = k * 4;
-    if rules[at + 2] != 2 {
+    let at = k * RULE_WIDTH;
+    if rules[at + TYPE] != ATOMIC {
         return LIST;
     }
-    let end = wide(marks[at + 3]);
-    read_loops(rules, rows, text, marks, end - wide(rules[at + 3]), end)
+    let end = wide(marks[k * MARK_WIDTH + END]);
+    read_loops(rules, rows, text, marks, end - wide(rules[at + ROWS]), end)
 }
 
 // Reads the loops of all Atomic rules.
@@ -312,7 +308,7 @@ fn read_rules(rules: &[u32], rows: &[u32], text: &[u8], marks: &mut [u32]) -> u3
     ensures { λ a. ⌜ Ran (now (marks .entry)) (now (marks .exit)) a ⌝ }
     ensures { λ a. ⌜ ((t : Table Span) → Lent (now (rules .entry)) (now (rows .entry)) t → LoopsOf (now (text .entry)) t (now (marks .entry)) (now (marks .exit)) a (λ look. any (ruleOpen look) (resolveTable (now (text .entry)) t))) ⌝ }
 {
-    let count = rules.len() / 4;
+    let count = rules.len() / RULE_WIDTH;
     let mut k = 0;
     while k < count {
         let a = read_atomic(rules, rows, text, marks, k);
@@ -326,45 +322,37 @@ fn read_rules(rules: &[u32], rows: &[u32], text: &[u8], marks: &mut [u32]) -> u3
 
 // Clears the memories of the first `count` rules.
 fn forget(marks: &mut [u32], count: usize)
-    requires { ⌜ count * 4 ≤ length (now marks) ⌝ }
+    requires { ⌜ count * markWidth ≤ length (now marks) ⌝ }
     ensures { λ _. ⌜ now (marks .exit) ≡ marked (λ _. 0) 1 count (now (marks .entry)) ⌝ }
 {
     let mut i = 0;
     while i < count {
-        marks[i * 4 + 1] = 0;
+        marks[i * MARK_WIDTH + MEMORY] = 0;
         i += 1;
     }
 }
 
 // The rule in whose expression the strings of rule i are read.
 fn told(marks: &[u32], i: usize) -> usize
-    requires { ⌜ i * 4 + 1 < length (now marks) ⌝ }
+    requires { ⌜ i * markWidth + memoryWord < length (now marks) ⌝ }
     ensures { λ k. ⌜ k ≡ toldAt (now (marks .entry)) i ⌝ }
 {
-    let w = marks[i * 4 + 1];
+    let w = marks[i * MARK_WIDTH + MEMORY];
     if w >= LIST { wide(w - LIST) } else { i }
 }
 
 // The rule that the expression of rule i names, where it is an Ident, else rule i.
 fn named_by(rules: &[u32], rows: &[u32], text: &[u8], marks: &[u32], i: usize) -> usize
     requires { ⌜ Given (now rules) (now rows) (now text) (now marks) ⌝ }
-    requires { ⌜ i < length (now rules) / 4 ⌝ }
+    requires { ⌜ i < length (now rules) / ruleWidth ⌝ }
     ensures { λ j. ⌜ ((t : Table Span) → Lent (now (rules .entry)) (now (rows .entry)) t → Gives (resolveTable (now (text .entry)) t) i j) ⌝ }
 {
-    let end = wide(marks[i * 4 + 3]);
-    let Lookup::Row {
-        kind,
-        x,
-        y,
-        size: _,
-    } = rows::row_at(rows, end - 1)
-    else {
-        return i;
-    };
-    if kind != 3 {
+    let root = wide(marks[i * MARK_WIDTH + END]) - 1;
+    if kind_at(rows, root) != IDENT {
         return i;
     }
-    let Found::At(j) = names::find_rule(rules, text, marks, text, wide(x), wide(y)) else {
+    // not names::find_known: that the name is a rule's follows from the list alone, which is not asked for here
+    let Found::At(j) = rule_at(rules, text, marks, rows, text, root) else {
         return i;
     };
     j
@@ -373,15 +361,15 @@ fn named_by(rules: &[u32], rows: &[u32], text: &[u8], marks: &[u32], i: usize) -
 // Tells rule i, if it has a list, which rule it names. Whether that is another.
 fn tell(rules: &[u32], rows: &[u32], text: &[u8], marks: &mut [u32], i: usize) -> bool
     requires { ⌜ Given (now rules) (now rows) (now text) (now marks) ⌝ }
-    requires { ⌜ i < length (now rules) / 4 ⌝ }
+    requires { ⌜ i < length (now rules) / ruleWidth ⌝ }
     ensures { λ _. ⌜ Relisted (now (marks .entry)) (now (marks .exit)) ⌝ }
     ensures { λ _. ⌜ ((t : Table Span) → Lent (now (rules .entry)) (now (rows .entry)) t → TargetsOf i (resolveTable (now (text .entry)) t) (now (marks .entry)) → TargetsOf (i + 1) (resolveTable (now (text .entry)) t) (now (marks .exit))) ⌝ }
 {
-    if marks[i * 4 + 1] < LIST {
+    if marks[i * MARK_WIDTH + MEMORY] < LIST {
         return false;
     }
     let j = named_by(rules, rows, text, marks, i);
-    marks[i * 4 + 1] = LIST + j as u32;
+    marks[i * MARK_WIDTH + MEMORY] = LIST + j as u32;
     j != i
 }
 
@@ -391,7 +379,7 @@ fn tell_all(rules: &[u32], rows: &[u32], text: &[u8], marks: &mut [u32]) -> bool
     ensures { λ _. ⌜ Relisted (now (marks .entry)) (now (marks .exit)) ⌝ }
     ensures { λ _. ⌜ ((t : Table Span) → Lent (now (rules .entry)) (now (rows .entry)) t → Targets (resolveTable (now (text .entry)) t) (now (marks .exit))) ⌝ }
 {
-    let count = rules.len() / 4;
+    let count = rules.len() / RULE_WIDTH;
     let mut others = false;
     let mut i = 0;
     while i < count {
@@ -405,21 +393,21 @@ fn tell_all(rules: &[u32], rows: &[u32], text: &[u8], marks: &mut [u32]) -> bool
 
 // Rule i was told rule k: tells it what rule k was told.
 fn pass_on(marks: &mut [u32], i: usize)
-    requires { ⌜ i * 4 + 1 < length (now marks) ⌝ }
-    requires { ⌜ toldAt (now marks) i * 4 + 1 < length (now marks) ⌝ }
+    requires { ⌜ i * markWidth + memoryWord < length (now marks) ⌝ }
+    requires { ⌜ toldAt (now marks) i * markWidth + memoryWord < length (now marks) ⌝ }
     ensures { λ _. ⌜ Relisted (now (marks .entry)) (now (marks .exit)) ⌝ }
     ensures { λ _. ⌜ ((t : Table Bytes) → i < length t → Targets t (now (marks .entry)) → Targets t (now (marks .exit))) ⌝ }
 {
     let k = told(marks, i);
-    let w = marks[k * 4 + 1];
+    let w = marks[k * MARK_WIDTH + MEMORY];
     if w >= LIST {
-        marks[i * 4 + 1] = w;
+        marks[i * MARK_WIDTH + MEMORY] = w;
     }
 }
 
 // The same for each of `count` rules: each then spans at least twice as many steps of its way, or all.
 fn pass_all(marks: &mut [u32], count: usize)
-    requires { ⌜ count * 4 ≤ length (now marks) ⌝ }
+    requires { ⌜ count * markWidth ≤ length (now marks) ⌝ }
     requires { ⌜ Leading count (now marks) ⌝ }
     ensures { λ _. ⌜ Relisted (now (marks .entry)) (now (marks .exit)) ⌝ }
     ensures { λ _. ⌜ ((t : Table Bytes) → count ≡ length t → Targets t (now (marks .entry)) → Targets t (now (marks .exit))) ⌝ }
@@ -437,7 +425,7 @@ fn shorten(rules: &[u32], rows: &[u32], text: &[u8], marks: &mut [u32])
     ensures { λ _. ⌜ Relisted (now (marks .entry)) (now (marks .exit)) ⌝ }
     ensures { λ _. ⌜ ((t : Table Span) → Lent (now (rules .entry)) (now (rows .entry)) t → Targets (resolveTable (now (text .entry)) t) (now (marks .exit))) ⌝ }
 {
-    let count = rules.len() / 4;
+    let count = rules.len() / RULE_WIDTH;
     // most tables have no way to shorten
     if !tell_all(rules, rows, text, marks) {
         return;
@@ -455,7 +443,7 @@ pub fn read_lists(rules: &[u32], rows: &[u32], text: &[u8], marks: &mut [u32]) -
     ensures { λ _. ⌜ Given (now (rules .entry)) (now (rows .entry)) (now (text .entry)) (now (marks .exit)) ⌝ }
     ensures { λ a. ⌜ ((t : Table Span) → Lent (now (rules .entry)) (now (rows .entry)) t → ListsAnswer a (resolveTable (now (text .entry)) t) (now (marks .exit))) ⌝ }
 {
-    forget(marks, rules.len() / 4);
+    forget(marks, rules.len() / RULE_WIDTH);
     let a = read_rules(rules, rows, text, marks);
     if a == AGAIN {
         Readings::Again
@@ -487,30 +475,22 @@ fn leaf_listed(
     text: &[u8],
     root: usize,
 ) -> bool
-    requires { ⌜ Hashed (now rules) (now given) (now marks) ⌝ }
+    requires { ⌜ AllIndexed (now rules) (now given) (now marks) ⌝ }
     requires { ⌜ Inside (now rows) (length (now text)) ⌝ }
     requires { ⌜ Stands (now rows) root ⌝ }
     ensures { λ b. ⌜ ((t : Table Span) (r : Expr Span) → now (rules .entry) ≡ ruleWords t → At (now (rows .entry)) root r → b ≡ isList (readLeft (byMarks (listsOf (resolveTable (now (given .entry)) t) (now (marks .entry)))) (resolve (now (text .entry)) r))) ⌝ }
 {
-    let Lookup::Row {
-        kind,
-        x,
-        y,
-        size: _,
-    } = rows::row_at(rows, root)
-    else {
-        return false;
-    };
-    if kind == 0 {
+    let kind = kind_at(rows, root);
+    if kind == STR {
         return true;
     }
-    if kind != 3 {
+    if kind != IDENT {
         return false;
     }
-    let Found::At(i) = names::find_rule(rules, given, marks, text, wide(x), wide(y)) else {
+    let Found::At(i) = rule_at(rules, given, marks, rows, text, root) else {
         return false;
     };
-    marks[i * 4 + 1] >= LIST
+    marks[i * MARK_WIDTH + MEMORY] >= LIST
 }
 
 // Whether an expression has a list, by the marks.
@@ -522,35 +502,16 @@ fn listed(
     text: &[u8],
     root: usize,
 ) -> bool
-    requires { ⌜ Hashed (now rules) (now given) (now marks) ⌝ }
+    requires { ⌜ AllIndexed (now rules) (now given) (now marks) ⌝ }
     requires { ⌜ Inside (now rows) (length (now text)) ⌝ }
     requires { ⌜ Stands (now rows) root ⌝ }
     ensures { λ b. ⌜ ((t : Table Span) (r : Expr Span) → now (rules .entry) ≡ ruleWords t → At (now (rows .entry)) root r → b ≡ isList (readIn (byMarks (listsOf (resolveTable (now (given .entry)) t) (now (marks .entry)))) (resolve (now (text .entry)) r))) ⌝ }
 {
-    let Lookup::Row {
-        kind,
-        x: _,
-        y: _,
-        size: _,
-    } = rows::row_at(rows, root)
-    else {
-        return false;
-    };
-    if kind != 9 {
+    if kind_at(rows, root) != CHOICE {
         return leaf_listed(rules, given, marks, rows, text, root);
     }
-    let right = root - 1;
-    let Lookup::Row {
-        kind: _,
-        x: _,
-        y: _,
-        size: n,
-    } = rows::row_at(rows, right)
-    else {
-        return false;
-    };
-    if leaf_listed(rules, given, marks, rows, text, right - wide(n)) {
-        listed(rules, given, marks, rows, text, right)
+    if leaf_listed(rules, given, marks, rows, text, left_of(rows, root)) {
+        listed(rules, given, marks, rows, text, root - 1)
     } else {
         false
     }
@@ -565,21 +526,12 @@ fn list_at(
     text: &[u8],
     root: usize,
 ) -> Loop
-    requires { ⌜ Hashed (now rules) (now given) (now marks) ⌝ }
+    requires { ⌜ AllIndexed (now rules) (now given) (now marks) ⌝ }
     requires { ⌜ Inside (now rows) (length (now text)) ⌝ }
     requires { ⌜ Stands (now rows) root ⌝ }
     ensures { λ a. ⌜ ((t : Table Span) (r : Expr Span) → now (rules .entry) ≡ ruleWords t → At (now (rows .entry)) root r → ListAnswer a (now (rows .entry)) (now (text .entry)) (byMarks (listsOf (resolveTable (now (given .entry)) t) (now (marks .entry)))) (resolve (now (text .entry)) r)) ⌝ }
 {
-    let Lookup::Row {
-        kind,
-        x: _,
-        y: _,
-        size: _,
-    } = rows::row_at(rows, root)
-    else {
-        return Loop::Nothing;
-    };
-    if kind != 11 {
+    if kind_at(rows, root) != REP {
         return Loop::Nothing;
     }
     let Loop::Over(e) = in_loop(rows, text, root - 1) else {
@@ -592,24 +544,6 @@ fn list_at(
     }
 }
 
-// The kind of row i.
-fn kind_at(rows: &[u32], i: usize) -> u32
-    requires { ⌜ i < length (now rows) / 4 ⌝ }
-    ensures { λ k. ⌜ k ≡ kindAt (now (rows .entry)) i ⌝ }
-{
-    rows[i * 4]
-}
-
-// The row of what a Choice at `root` has on its left.
-fn left_of(rows: &[u32], root: usize) -> usize
-    requires { ⌜ Stands (now rows) root ⌝ }
-    requires { ⌜ kindAt (now rows) root ≡ 9 ⌝ }
-    ensures { λ i. ⌜ i ≡ root - 1 - sizeAt (now (rows .entry)) (root - 1) ⌝ }
-{
-    let right = root - 1;
-    right - wide(rows[right * 4 + 3])
-}
-
 // Writes the Str of row `root`.
 fn put_str(
     rows: &[u32],
@@ -620,15 +554,12 @@ fn put_str(
     p: Place,
 ) -> Wrote
     requires { ⌜ Inside (now rows) (length (now text)) ⌝ }
-    requires { ⌜ root < length (now rows) / 4 ⌝ }
-    requires { ⌜ kindAt (now rows) root ≡ 0 ⌝ }
+    requires { ⌜ root < length (now rows) / rowWidth ⌝ }
+    requires { ⌜ kindAt (now rows) root ≡ kStr ⌝ }
     requires { ⌜ Room p (now out) (now lits) ⌝ }
     ensures { λ a. ⌜ LitAnswer a p 0 (literalAt (now (rows .entry)) (now (text .entry)) root) (now (out .entry)) (now (out .exit)) (now (lits .entry)) (now (lits .exit)) ⌝ }
 {
-    let at = root * 4;
-    let x = wide(rows[at + 1]);
-    let n = wide(rows[at + 2]);
-    writing::put_lit(text, x, n, 0, out, lits, p)
+    writing::put_lit(text, x_at(rows, root), y_at(rows, root), 0, out, lits, p)
 }
 
 // The row of an expression that gives the strings of the Ident of row `root`, which names a rule of the table with the text `given_text`.
@@ -642,17 +573,16 @@ fn body_of(
 ) -> usize
     requires { ⌜ Named (now «given_rules») (now «given_text») (now marks) ⌝ }
     requires { ⌜ Inside (now rows) (length (now text)) ⌝ }
-    requires { ⌜ root < length (now rows) / 4 ⌝ }
-    requires { ⌜ kindAt (now rows) root ≡ 3 ⌝ }
+    requires { ⌜ root < length (now rows) / rowWidth ⌝ }
+    requires { ⌜ kindAt (now rows) root ≡ kIdent ⌝ }
     requires { ⌜ IsName (now «given_rules») (now «given_text») (literalAt (now rows) (now text) root) ⌝ }
     ensures { λ j. ⌜ ((w : List ℕ) (t : Table Span) → Lent (now («given_rules» .entry)) w t → Targets (resolveTable (now («given_text» .entry)) t) (now (marks .entry)) → BodyAt j w (now («given_text» .entry)) t (literalAt (now (rows .entry)) (now (text .entry)) root)) ⌝ }
 {
-    let at = root * 4;
-    let x = wide(rows[at + 1]);
-    let y = wide(rows[at + 2]);
+    let x = x_at(rows, root);
+    let y = y_at(rows, root);
     let i = names::find_known(given_rules, given_text, marks, text, x, y);
     let k = told(marks, i);
-    wide(marks[k * 4 + 3]) - 1
+    wide(marks[k * MARK_WIDTH + END]) - 1
 }
 
 // Writes the strings of a literal: itself, or those of the rule that it names, through at most `fuel` rules.
@@ -675,7 +605,7 @@ fn write_leaf(
     requires { ⌜ Room p (now out) (now lits) ⌝ }
     ensures { λ a. ⌜ ((t : Table Span) (r : Expr Span) (ss : List Bytes) → Lent (now («given_rules» .entry)) (now («given_rows» .entry)) t → At (now (rows .entry)) root r → Spells (resolveTable (now («given_text» .entry)) t) fuel (λ look. readLeft look (resolve (now (text .entry)) r)) ss → StrsAnswer a p ss (now (out .entry)) (now (out .exit)) (now (lits .entry)) (now (lits .exit))) ⌝ }
 {
-    if kind_at(rows, root) == 0 {
+    if kind_at(rows, root) == STR {
         return put_str(rows, text, root, out, lits, p);
     }
     let body = body_of(given_rules, given_text, marks, rows, text, root);
@@ -712,8 +642,8 @@ fn write_rule(
     let mut at = root;
     let mut fuel_left = fuel;
     let mut q = p;
-    while kind_at(rows, at) != 0 {
-        if kind_at(rows, at) == 9 {
+    while kind_at(rows, at) != STR {
+        if kind_at(rows, at) == CHOICE {
             let leaf = left_of(rows, at);
             let Wrote::Done(s) = write_leaf(
                 rules,
@@ -762,7 +692,7 @@ fn write_list(
 {
     let mut at = root;
     let mut q = p;
-    while kind_at(rows, at) == 9 {
+    while kind_at(rows, at) == CHOICE {
         let leaf = left_of(rows, at);
         let Wrote::Done(s) = write_leaf(
             given_rules,
@@ -806,45 +736,6 @@ fn put_node(out: &mut [u32], p: Place, q: Place, kind: u32, x: u32, y: u32) -> W
     writing::put_row(out, q, kind, x, y, n as u32)
 }
 
-// Writes the Skip of a loop's expression that has a list.
-fn write_skip(
-    given_rules: &[u32],
-    given_rows: &[u32],
-    given_text: &[u8],
-    marks: &[u32],
-    rows: &[u32],
-    text: &[u8],
-    root: usize,
-    out: &mut [u32],
-    lits: &mut [u8],
-    p: Place,
-) -> Wrote
-    requires { ⌜ Led (now «given_rules») (now «given_rows») (now «given_text») (now marks) ⌝ }
-    requires { ⌜ Inside (now rows) (length (now text)) ⌝ }
-    requires { ⌜ Skipped (now «given_rules») (now «given_rows») (now «given_text») (now rows) (now text) root ⌝ }
-    requires { ⌜ Room p (now out) (now lits) ⌝ }
-    ensures { λ a. ⌜ ((t : Table Span) (r : Expr Span) (ss : List Bytes) → Lent (now («given_rules» .entry)) (now («given_rows» .entry)) t → At (now (rows .entry)) root r → skipList (resolveTable (now («given_text» .entry)) t) (resolve (now (text .entry)) r) ≡ strings ss → Answer a p (skip ss) (now (out .entry)) (now (out .exit)) (now (lits .entry)) (now (lits .exit))) ⌝ }
-{
-    let fuel = given_rules.len() / 4 + 1;
-    let Wrote::Done(q) = write_list(
-        given_rules,
-        given_rows,
-        given_text,
-        marks,
-        rows,
-        text,
-        root,
-        fuel,
-        out,
-        lits,
-        p,
-    ) else {
-        return Wrote::Full;
-    };
-    let n = q.rows - p.rows;
-    put_node(out, p, q, 17, n as u32, 0)
-}
-
 // Goes down from `root` through rows with one child, as long as none is a loop that has a list.
 fn fall(
     rules: &[u32],
@@ -854,22 +745,14 @@ fn fall(
     text: &[u8],
     root: usize,
 ) -> Fallen
-    requires { ⌜ Hashed (now rules) (now given) (now marks) ⌝ }
+    requires { ⌜ AllIndexed (now rules) (now given) (now marks) ⌝ }
     requires { ⌜ Inside (now rows) (length (now text)) ⌝ }
     requires { ⌜ Stands (now rows) root ⌝ }
     ensures { λ a. ⌜ ((t : Table Span) (r : Expr Span) → now (rules .entry) ≡ ruleWords t → At (now (rows .entry)) root r → Settles (resolveTable (now (given .entry)) t) (now (marks .entry)) (resolve (now (text .entry)) r) → FallAnswer a (resolveTable (now (given .entry)) t) (now (marks .entry)) (now (rows .entry)) (now (text .entry)) root r) ⌝ }
 {
     let mut base = root;
     while base > 0 {
-        let Lookup::Row {
-            kind,
-            x: _,
-            y: _,
-            size: _,
-        } = rows::row_at(rows, base)
-        else {
-            return Fallen::Plain;
-        };
+        let kind = kind_at(rows, base);
         match node_of(kind) {
             Node::Leaf => {
                 return Fallen::Plain;
@@ -934,6 +817,26 @@ fn rise(rows: &[u32], base: usize, root: usize, out: &mut [u32], p: Place, q: Pl
     })
 }
 
+// Writes a row over what stands from p to q, and over it the rows after `base` up to `root`.
+fn crown(
+    rows: &[u32],
+    base: usize,
+    root: usize,
+    out: &mut [u32],
+    p: Place,
+    q: Place,
+    kind: u32,
+    x: u32,
+) -> Wrote
+    requires { ⌜ Rising (now rows) base root p q (now out) ⌝ }
+    ensures { λ a. ⌜ ((us : List Un) (r : Expr Span) → At (now (rows .entry)) root (wrap us r) → base + length us ≡ root → CrownedAnswer a q p (kind, x, 0) us (now (out .entry)) (now (out .exit))) ⌝ }
+{
+    let Wrote::Done(s) = put_node(out, p, q, kind, x, 0) else {
+        return Wrote::Full;
+    };
+    rise(rows, base, root, out, p, s)
+}
+
 // Writes the Skip of the loop's expression e, and over it the rows after `base` up to `root`.
 fn skip_loop(
     given_rules: &[u32],
@@ -952,11 +855,12 @@ fn skip_loop(
     requires { ⌜ Led (now «given_rules») (now «given_rows») (now «given_text») (now marks) ⌝ }
     requires { ⌜ Inside (now rows) (length (now text)) ⌝ }
     requires { ⌜ Skipped (now «given_rules») (now «given_rows») (now «given_text») (now rows) (now text) e ⌝ }
-    requires { ⌜ (base ≤ root) × (root < length (now rows) / 4) ⌝ }
+    requires { ⌜ (base ≤ root) × (root < length (now rows) / rowWidth) ⌝ }
     requires { ⌜ Room p (now out) (now lits) ⌝ }
     ensures { λ a. ⌜ ((t : Table Span) (us : List Un) (c r : Expr Span) (ss : List Bytes) → Lent (now («given_rules» .entry)) (now («given_rows» .entry)) t → At (now (rows .entry)) root (wrap us c) → base + length us ≡ root → At (now (rows .entry)) e r → skipList (resolveTable (now («given_text» .entry)) t) (resolve (now (text .entry)) r) ≡ strings ss → Answer a p (wrap us (skip ss)) (now (out .entry)) (now (out .exit)) (now (lits .entry)) (now (lits .exit))) ⌝ }
 {
-    let Wrote::Done(q) = write_skip(
+    let fuel = given_rules.len() / RULE_WIDTH + 1;
+    let Wrote::Done(q) = write_list(
         given_rules,
         given_rows,
         given_text,
@@ -964,13 +868,15 @@ fn skip_loop(
         rows,
         text,
         e,
+        fuel,
         out,
         lits,
         p,
     ) else {
         return Wrote::Full;
     };
-    rise(rows, base, root, out, p, q)
+    let n = q.rows - p.rows;
+    crown(rows, base, root, out, p, q, SKIP, n as u32)
 }
 
 // Step 2 at a row with two children, and over it the rows after `base` up to `root`.
@@ -992,23 +898,13 @@ fn skip_fork(
     requires { ⌜ Inside (now rows) (length (now text)) ⌝ }
     requires { ⌜ Settling (now «given_rules») (now «given_rows») (now «given_text») (now marks) (now rows) (now text) base ⌝ }
     requires { ⌜ (kind ≡ kindAt (now rows) base) × (nodeOf kind ≡ Pair) ⌝ }
-    requires { ⌜ (base ≤ root) × (root < length (now rows) / 4) ⌝ }
+    requires { ⌜ (base ≤ root) × (root < length (now rows) / rowWidth) ⌝ }
     requires { ⌜ Room p (now out) (now lits) ⌝ }
     ensures { λ a. ⌜ ((t : Table Span) (us : List Un) (r : Expr Span) → Lent (now («given_rules» .entry)) (now («given_rows» .entry)) t → At (now (rows .entry)) base r → Settles (resolveTable (now («given_text» .entry)) t) (now (marks .entry)) (resolve (now (text .entry)) r) → At (now (rows .entry)) root (wrap us r) → base + length us ≡ root → Answer a p (wrap us (topDown (orSame (skip? (resolveTable (now («given_text» .entry)) t))) (resolve (now (text .entry)) r))) (now (out .entry)) (now (out .exit)) (now (lits .entry)) (now (lits .exit))) ⌝ }
 {
-    let right = base - 1;
-    let Lookup::Row {
-        kind: _,
-        x: _,
-        y: _,
-        size: n,
-    } = rows::row_at(rows, right)
-    else {
-        return Wrote::Full;
-    };
     // one call for both children: a second one makes every level of nesting take more stack
-    let mut child = right - wide(n);
-    let mut next = right;
+    let mut child = left_of(rows, base);
+    let mut next = base - 1;
     let mut at = p.rows;
     let mut end = p.text;
     while child < base {
@@ -1034,20 +930,11 @@ fn skip_fork(
         child = next;
         next = base;
     }
-    let Wrote::Done(v) = put_node(
-        out,
-        p,
-        Place {
-            rows: at,
-            text: end,
-        },
-        kind,
-        0,
-        0,
-    ) else {
-        return Wrote::Full;
+    let q = Place {
+        rows: at,
+        text: end,
     };
-    rise(rows, base, root, out, p, v)
+    crown(rows, base, root, out, p, q, kind, 0)
 }
 
 // Step 2 from the top of a subtree, as it stands after step 1, with lists looked up in the table as it was given.
@@ -1103,66 +990,13 @@ fn skip_tree(
     }
 }
 
-// Whether some row of the subtree of row `root` is a Rep of a Seq, as each loop is that step 2 rewrites.
-pub fn may_skip(rows: &[u32], root: usize) -> bool
-    requires { ⌜ Stands (now rows) root ⌝ }
-    ensures { λ b. ⌜ (b ≡ false → (t : Table Bytes) (s : Bytes) (r : Expr Span) → At (now (rows .entry)) root r → topDown (orSame (skip? t)) (resolve s r) ≡ resolve s r) ⌝ }
+// Whether the Rep of row i is of a Seq, as each loop is that step 2 rewrites.
+pub fn fires(rows: &[u32], i: usize) -> bool
+    requires { ⌜ Stands (now rows) i ⌝ }
+    requires { ⌜ kindAt (now rows) i ≡ kRep ⌝ }
+    ensures { λ b. ⌜ (b ≡ false → (t : Table Bytes) (s : Bytes) (x : Expr Span) → At (now (rows .entry)) i x → orSame (skip? t) (resolve s x) ≡ resolve s x) ⌝ }
 {
-    let Lookup::Row {
-        kind: _,
-        x: _,
-        y: _,
-        size,
-    } = rows::row_at(rows, root)
-    else {
-        return true;
-    };
-    let mut i = root + 1 - wide(size);
-    while i < root {
-        if rows[i * 4] == 8 {
-            if rows[(i + 1) * 4] == 11 {
-                return true;
-            }
-        }
-        i += 1;
-    }
-    false
-}
-
-// Step 2 of a subtree: most have no Rep of a Seq, and a copy is cheaper than a walk.
-fn skip_all(
-    given_rules: &[u32],
-    given_rows: &[u32],
-    given_text: &[u8],
-    marks: &[u32],
-    rows: &[u32],
-    text: &[u8],
-    root: usize,
-    out: &mut [u32],
-    lits: &mut [u8],
-    p: Place,
-) -> Wrote
-    requires { ⌜ Given (now «given_rules») (now «given_rows») (now «given_text») (now marks) ⌝ }
-    requires { ⌜ Inside (now rows) (length (now text)) ⌝ }
-    requires { ⌜ Settling (now «given_rules») (now «given_rows») (now «given_text») (now marks) (now rows) (now text) root ⌝ }
-    requires { ⌜ Room p (now out) (now lits) ⌝ }
-    ensures { λ a. ⌜ ((t : Table Span) (r : Expr Span) → Lent (now («given_rules» .entry)) (now («given_rows» .entry)) t → At (now (rows .entry)) root r → Settles (resolveTable (now («given_text» .entry)) t) (now (marks .entry)) (resolve (now (text .entry)) r) → Answer a p (topDown (orSame (skip? (resolveTable (now («given_text» .entry)) t))) (resolve (now (text .entry)) r)) (now (out .entry)) (now (out .exit)) (now (lits .entry)) (now (lits .exit))) ⌝ }
-{
-    if !may_skip(rows, root) {
-        return writing::copy(rows, text, root, out, lits, p);
-    }
-    skip_tree(
-        given_rules,
-        given_rows,
-        given_text,
-        marks,
-        rows,
-        text,
-        root,
-        out,
-        lits,
-        p,
-    )
+    rows[(i - 1) * ROW_WIDTH] == SEQ
 }
 
 // Step 2 of a rule's expression, as it stands after step 1: "Atomic only".
@@ -1182,12 +1016,12 @@ pub fn skip(
     requires { ⌜ Given (now «given_rules») (now «given_rows») (now «given_text») (now marks) ⌝ }
     requires { ⌜ Inside (now rows) (length (now text)) ⌝ }
     requires { ⌜ Stands (now rows) root ⌝ }
-    requires { ⌜ («rule_type» ≡ 2 → Settling (now «given_rules») (now «given_rows») (now «given_text») (now marks) (now rows) (now text) root) ⌝ }
+    requires { ⌜ («rule_type» ≡ Atomic → Settling (now «given_rules») (now «given_rows») (now «given_text») (now marks) (now rows) (now text) root) ⌝ }
     requires { ⌜ Room p (now out) (now lits) ⌝ }
-    ensures { λ a. ⌜ ((t : Table Span) (r : Expr Span) → Lent (now («given_rules» .entry)) (now («given_rows» .entry)) t → At (now (rows .entry)) root r → («rule_type» ≡ 2 → Settles (resolveTable (now («given_text» .entry)) t) (now (marks .entry)) (resolve (now (text .entry)) r)) → Answer a p (skipTo (resolveTable (now («given_text» .entry)) t) «rule_type» (resolve (now (text .entry)) r)) (now (out .entry)) (now (out .exit)) (now (lits .entry)) (now (lits .exit))) ⌝ }
+    ensures { λ a. ⌜ ((t : Table Span) (r : Expr Span) → Lent (now («given_rules» .entry)) (now («given_rows» .entry)) t → At (now (rows .entry)) root r → («rule_type» ≡ Atomic → Settles (resolveTable (now («given_text» .entry)) t) (now (marks .entry)) (resolve (now (text .entry)) r)) → Answer a p (skipTo (resolveTable (now («given_text» .entry)) t) «rule_type» (resolve (now (text .entry)) r)) (now (out .entry)) (now (out .exit)) (now (lits .entry)) (now (lits .exit))) ⌝ }
 {
-    if rule_type == 2 {
-        skip_all(
+    if rule_type == ATOMIC {
+        skip_tree(
             given_rules,
             given_rows,
             given_text,

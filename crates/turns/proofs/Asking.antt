@@ -23,6 +23,7 @@ use Rattle.skipper.specs.Skips as skipper
 use Rattle.skipper.specs.Lists.{Lists, unreadAt}
 use Rattle.restorer.specs.Lends.{Marked, Settles}
 use Rattle.passes.specs.Passes.{Asks, AsksAll, Lent, stepOf}
+use Rattle.turns.specs.Chain.{after, allSeven}
 use Rattle.turns.proofs.Fronts.{packed-zeros}
 
 -- what is asked of each rule, asked of a table
@@ -60,18 +61,10 @@ asks-seven m s t =
     })
     t
 
--- the stages, by the steps' numbers
-pub stages-seven : (t : Table Bytes) →
-    let t1 : Table Bytes = each (stepOf 1 t) t in
-    let t2 : Table Bytes = each (stepOf 2 t) t1 in
-    let t3 : Table Bytes = each (stepOf 3 t) t2 in
-    let t4 : Table Bytes = each (stepOf 4 t) t3 in
-    let t5 : Table Bytes = each (stepOf 5 t) t4 in
-    let t6 : Table Bytes = each (stepOf 6 t5) t5 in
-    let t7 : Table Bytes = each (stepOf 7 t6) t6 in
-    stages t ≡ t ∷ t1 ∷ t2 ∷ t3 ∷ t4 ∷ t5 ∷ t6 ∷ t7 ∷ []
+-- the document's stages, by the steps' numbers
+pub stages-are : (t : Table Bytes) → stages t ≡ t ∷ allSeven t
 unfolding stages stepOf
-stages-seven t = refl
+stages-are t = refl
 
 -- ONE TABLE IS LENT
 pub unique-table : {t u : Table Span} {rs ws : List ℕ} → Lent t rs ws → Lent u rs ws → t ≡ u
@@ -189,7 +182,7 @@ rotated-loops p (r ∷ t) = ap (λ (b : Bool). (isAtomic (r .type) && anyNode p 
 atomic : (y : ℕ) (b : Bool) → y ≡ 2 → (isAtomic y && b) ≡ false → b ≡ false
 atomic y b e h = rw e at h
 
-module _ {rs₀ ws₀ : List ℕ} {text₀ : Bytes} {marks : List ℕ} (g : Given rs₀ ws₀ text₀ marks) (ls : (gs : Table Span) → Lent gs rs₀ ws₀ → Lists (resolveTable text₀ gs) marks) (gs : Table Span) (l : Lent gs rs₀ ws₀) where
+module _ {rs₀ ws₀ : List ℕ} {text₀ : Bytes} {marks : List ℕ} (g : Given rs₀ ws₀ text₀ marks) (gs : Table Span) (l : Lent gs rs₀ ws₀) (ls : Lists (resolveTable text₀ gs) marks) where
   abbrev unread : E → Bool
   unread = unreadAt (byMarks (listsOf (resolveTable text₀ gs) marks))
 
@@ -198,7 +191,7 @@ module _ {rs₀ ws₀ : List ℕ} {text₀ : Bytes} {marks : List ℕ} (g : Give
 
   settled-all : anyLoop unread turned ≡ false
   unfolding stepOf
-  settled-all = rotated-loops unread (resolveTable text₀ gs) ∙ ls gs l .settled
+  settled-all = rotated-loops unread (resolveTable text₀ gs) ∙ ls .settled
 
   asks-loops : (ws : List ℕ) (text : Bytes) (t : Table Span) → anyLoop unread (resolveTable text t) ≡ false → AsksAll 2 rs₀ ws₀ text₀ marks ws text t
   asks-loops ws text [] h = tt
@@ -207,7 +200,7 @@ module _ {rs₀ ws₀ : List ℕ} {text₀ : Bytes} {marks : List ℕ} (g : Give
         record {
           counts = λ e. absurd (omega arith);
           given = λ _. g;
-          settles = λ _ y us m. subst (λ (x : Table Span). skipper.Settles (resolveTable text₀ x) marks (resolve text (r .body))) (unique-table l m) (record { targets = ls gs l .targets; known = ls gs l .known; settled = atomic (r .type) (anyNode unread (resolve text (r .body))) y (p .0) });
+          settles = λ _ y us m. subst (λ (x : Table Span). skipper.Settles (resolveTable text₀ x) marks (resolve text (r .body))) (unique-table l m) (record { targets = ls .targets; known = ls .known; settled = atomic (r .type) (anyNode unread (resolve text (r .body))) y (p .0) });
           marked = λ e. absurd (omega arith);
           known = λ e. absurd (omega arith);
           same-rows = λ e. absurd (omega arith);
@@ -219,5 +212,5 @@ module _ {rs₀ ws₀ : List ℕ} {text₀ : Bytes} {marks : List ℕ} (g : Give
   asks-turned : AsksAll 2 rs₀ ws₀ text₀ marks (wordsOf turned .rows) (tableText turned) (packedFrom 0 turned)
   asks-turned = asks-loops (wordsOf turned .rows) (tableText turned) (packedFrom 0 turned) (ap (anyLoop unread) (table-resolved turned) ∙ settled-all)
 
-pub asks-two : {rs₀ ws₀ : List ℕ} {text₀ : Bytes} {marks : List ℕ} → Given rs₀ ws₀ text₀ marks → ((gs : Table Span) → Lent gs rs₀ ws₀ → Lists (resolveTable text₀ gs) marks) → (gs : Table Span) → Lent gs rs₀ ws₀ → let t1 : Table Bytes = each (stepOf 1 (resolveTable text₀ gs)) (resolveTable text₀ gs) in AsksAll 2 rs₀ ws₀ text₀ marks (wordsOf t1 .rows) (tableText t1) (packedFrom 0 t1)
-asks-two g ls gs l = asks-turned g ls gs l
+pub asks-two : {rs₀ ws₀ : List ℕ} {text₀ : Bytes} {marks : List ℕ} → Given rs₀ ws₀ text₀ marks → (gs : Table Span) → Lent gs rs₀ ws₀ → Lists (resolveTable text₀ gs) marks → let t0 = resolveTable text₀ gs in let t1 : Table Bytes = after 1 t0 t0 in AsksAll 2 rs₀ ws₀ text₀ marks (wordsOf t1 .rows) (tableText t1) (packedFrom 0 t1)
+asks-two g gs l ls = asks-turned g gs l ls

@@ -7,6 +7,7 @@ use native.Mathlib.Decide.{decLt}
 use native.Mathlib.Omega.{arith}
 use lib.ListN.{length, take, getD, length-append, length-take}
 use mathlib.Core.Bool.{Bool, _||_}
+use Rattle.grammar.specs.Numbers.{ruleWidth, lengthWord, rowWidth}
 use Rattle.grammar.specs.Refusals.{zeroUn, zeroCount, zeroCounts}
 use Rattle.grammar.specs.Basic.{Bytes}
 use Rattle.grammar.specs.Tree.{E, Expr, size, lit, fixed, skip, un, bin, anyNode}
@@ -46,32 +47,32 @@ packed-in n o (r ∷ t) h =
     let b = length-append (r .name) (textOf (r .body)) in
     (within-packed n (o + length (r .name)) (r .body) (omega (arith, a, b, h)), packed-in n (o + length (ruleText r)) t (omega (arith, a, h)))
 
-pub names-in : (n o : ℕ) (t : Table Bytes) → o + length (tableText t) ≤ n → (i : ℕ) → i < length t → getD (ruleWords (packedFrom o t)) (i * 4) 0 + getD (ruleWords (packedFrom o t)) (i * 4 + 1) 0 ≤ n
+pub names-in : (n o : ℕ) (t : Table Bytes) → o + length (tableText t) ≤ n → (i : ℕ) → i < length t → getD (ruleWords (packedFrom o t)) (i * ruleWidth) 0 + getD (ruleWords (packedFrom o t)) (i * ruleWidth + lengthWord) 0 ≤ n
 names-in n o [] h i l = absurd (omega arith)
 names-in n o (r ∷ t) h zero l = omega (arith, length-append (ruleText r) (tableText t), length-append (r .name) (textOf (r .body)), h)
 names-in n o (r ∷ t) h (suc i) l =
     let f = names-in n (o + length (ruleText r)) t (omega (arith, length-append (ruleText r) (tableText t), h)) i (omega arith) in
     subst (λ (k : ℕ). getD (ruleWords (packedFrom o (r ∷ t))) k 0 + getD (ruleWords (packedFrom o (r ∷ t))) (k + 1) 0 ≤ n) (four i) (subst (λ (m : ℕ). getD (ruleWords (packedFrom (o + length (ruleText r)) t)) (i * 4) 0 + m ≤ n) (next i) f)
   where
-    four : (i : ℕ) → suc (suc (suc (suc (i * 4)))) ≡ suc i * 4
+    four : (i : ℕ) → suc (suc (suc (suc (i * 4)))) ≡ suc i * ruleWidth
     four i = omega arith
 
-    next : (i : ℕ) → getD (ruleWords (packedFrom (o + length (ruleText r)) t)) (i * 4 + 1) 0 ≡ getD (ruleWords (packedFrom o (r ∷ t))) (suc (suc (suc (suc (i * 4)))) + 1) 0
-    next i = let e : suc (suc (suc (suc (i * 4)))) + 1 ≡ suc (suc (suc (suc (i * 4 + 1)))) = omega arith in sym (ap (λ (k : ℕ). getD (ruleWords (packedFrom o (r ∷ t))) k 0) e)
+    next : (i : ℕ) → getD (ruleWords (packedFrom (o + length (ruleText r)) t)) (i * ruleWidth + 1) 0 ≡ getD (ruleWords (packedFrom o (r ∷ t))) (suc (suc (suc (suc (i * 4)))) + 1) 0
+    next i = let e : suc (suc (suc (suc (i * 4)))) + 1 ≡ suc (suc (suc (suc (i * ruleWidth + 1)))) = omega arith in sym (ap (λ (k : ℕ). getD (ruleWords (packedFrom o (r ∷ t))) k 0) e)
 
 pub packed-length : (o : ℕ) (t : Table Bytes) → length (packedFrom o t) ≡ length t
 packed-length o [] = refl
 packed-length o (r ∷ t) = omega (arith, packed-length (o + length (ruleText r)) t)
 
 -- the parts that hold it
-pub holds-front : {p : Place} (t : Table Bytes) {os o s : List ℕ} → Front p t os o s → Holds (packedFrom 0 t) (take (length t * 4) os) (take (p .rows * 4) o) (take (p .text) s)
+pub holds-front : {p : Place} (t : Table Bytes) {os o s : List ℕ} → Front p t os o s → Holds (packedFrom 0 t) (take (length t * ruleWidth) os) (take (p .rows * rowWidth) o) (take (p .text) s)
 holds-front {p} t {os} {o} {s} f =
     let n : length (take (p .text) s) ≡ length (tableText t) = ap length (f .bytes) in
     record {
       rules = sym (f .rule-words);
       rows = sym (f .row-words);
-      inside = table-inside (length (take (p .text) s)) (packedFrom 0 t) (take (p .rows * 4) o) (packed-in (length (take (p .text) s)) 0 t (omega (arith, n))) (sym (f .row-words));
-      names = λ i l. subst (λ (w : List ℕ). getD w (i * 4) 0 + getD w (i * 4 + 1) 0 ≤ length (take (p .text) s)) (sym (f .rule-words)) (names-in (length (take (p .text) s)) 0 t (omega (arith, n)) i (omega (arith, l, ap length (f .rule-words), rules-length (packedFrom 0 t), packed-length 0 t)));
+      inside = table-inside (length (take (p .text) s)) (packedFrom 0 t) (take (p .rows * rowWidth) o) (packed-in (length (take (p .text) s)) 0 t (omega (arith, n))) (sym (f .row-words));
+      names = λ i l. subst (λ (w : List ℕ). getD w (i * rowWidth) 0 + getD w (i * rowWidth + 1) 0 ≤ length (take (p .text) s)) (sym (f .rule-words)) (names-in (length (take (p .text) s)) 0 t (omega (arith, n)) i (omega (arith, l, ap length (f .rule-words), rules-length (packedFrom 0 t), packed-length 0 t)));
     }
 
 -- and what they stand for
@@ -79,9 +80,9 @@ pub front-is : {p : Place} (t : Table Bytes) {os o s : List ℕ} → Front p t o
 front-is {p} t f = ap (λ (x : Bytes). resolveTable x (packedFrom 0 t)) (f .bytes) ∙ table-resolved t
 
 -- the areas hold it
-pub front-within : {p : Place} (t : Table Bytes) {os o s : List ℕ} → Front p t os o s → (length t * 4 ≤ length os) × (p .rows * 4 ≤ length o) × (p .text ≤ length s)
+pub front-within : {p : Place} (t : Table Bytes) {os o s : List ℕ} → Front p t os o s → (length t * ruleWidth ≤ length os) × (p .rows * rowWidth ≤ length o) × (p .text ≤ length s)
 front-within {p} t {os} {o} {s} f =
-    (omega (arith, ap length (f .rule-words), rules-length (packedFrom 0 t), packed-length 0 t, length-take (length t * 4) os), omega (arith, ap length (f .row-words), rows-length (packedFrom 0 t), packed-count 0 t, f .rows, length-take (p .rows * 4) o), omega (arith, ap length (f .bytes), f .text, length-take (p .text) s))
+    (omega (arith, ap length (f .rule-words), rules-length (packedFrom 0 t), packed-length 0 t, length-take (length t * ruleWidth) os), omega (arith, ap length (f .row-words), rows-length (packedFrom 0 t), packed-count 0 t, f .rows, length-take (p .rows * rowWidth) o), omega (arith, ap length (f .bytes), f .text, length-take (p .text) s))
   where
     packed-count : (o : ℕ) (t : Table Bytes) → rowCount (packedFrom o t) ≡ rowCount t
     packed-count o [] = refl

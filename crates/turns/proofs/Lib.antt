@@ -1,6 +1,6 @@
+-- Laws of the seven steps.
 pub mod Fronts
-pub mod Turns
-pub mod Asking
 pub mod Sizes
-pub mod Owning
+pub mod Asking
+pub mod Turns
 pub mod Runs

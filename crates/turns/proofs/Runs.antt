@@ -1,173 +1,204 @@
--- Runs of steps, one after the other, from a table that is lent. Assumes nothing.
+-- The seven steps, one after the other, from a table that is lent. Assumes nothing.
 use mathlib.Core.Path.{_≡_, refl, sym, ap, ap₂, _∙_, subst}
-use mathlib.Core.Bool.{false≢true, Bool, true, false, _||_}
-use mathlib.Core.List.{List, [], _∷_, _++_, map}
+use mathlib.Core.Bool.{Bool, true, false, _||_}
+use mathlib.Core.List.{List, [], _∷_, map}
 use Prim.Native.Nat.{ℕ, _*_, _≤_}
 use native.Mathlib.Omega.{arith}
-use lib.ListN.{length}
+use lib.ListN.{length, take}
+use Rattle.grammar.specs.Numbers.{ruleWidth}
 use Rattle.grammar.specs.Basic.{Bytes, any}
 use Rattle.grammar.specs.Rows.{Span}
-use Rattle.grammar.specs.Table.{Table, rowCount, packedFrom, resolveTable, wordsOf, tableText}
+use Rattle.grammar.specs.Table.{Table, rowCount, ruleWords, packedFrom, resolveTable, wordsOf, tableText}
 use Rattle.grammar.specs.Steps.{each}
-use Rattle.grammar.specs.Refusals.{tooLarge}
-use Rattle.grammar.specs.Optimize.{lastOf}
-use Rattle.grammar.proofs.Logic.{or-left, or-right}
+use Rattle.grammar.specs.Refusals.{names, tooLarge}
+use Rattle.grammar.proofs.TopDown.{each-names}
+use Rattle.names.specs.Names.{NamesInside, AllIndexed}
+use Rattle.names.proofs.Finding.{index-moved}
 use Rattle.writing.specs.declared.Place.{Place}
 use Rattle.writing.specs.declared.Wrote.{Wrote}
-use Rattle.writing.specs.declared.Wrote.the-variants as wrote
+use Rattle.writing.specs.declared.Wrote.the-variants.{Done, Full}
+use Rattle.skipper.specs.Lends as skipper
+use Rattle.admission.specs.Ready.{Ready}
 use Rattle.passes.specs.Passes.{stepOf, Lent, Holds, Front, Passing, PassAnswer}
 use Rattle.passes.proofs.Tables.{rules-length, each-length, resolve-length}
-use Rattle.turns.specs.Chain.{Sized, Works, Ready, Turns, Stands, Ran, TwoAnswer, FiveAnswer, after, firstFive, lastTwo}
+use Rattle.turns.specs.Chain.{Sized, Works, Stood, Stands, Turning, Turns, Paired, Restoring, Ran, SevenAnswer, rowsOf, sevenOf, after, rotated, skipped, unrolled, concatenated, factored, listed, restored, allSeven}
 use Rattle.turns.specs.declared.Two.{Two}
-use Rattle.turns.specs.declared.Two.the-variants as two
-use Rattle.turns.specs.declared.Five.{Five}
-use Rattle.turns.specs.declared.Five.the-variants as five
-use Rattle.turns.proofs.Sizes.{sized-room, front-fine, full-large}
+use Rattle.turns.specs.declared.Seven.{Seven}
+use Rattle.turns.specs.declared.Seven.the-variants as seven
+use Rattle.turns.proofs.Fronts.{front-is}
+use Rattle.turns.proofs.Sizes.{sized-room, pass-stood, stood-rows, count-after}
 use Rattle.turns.proofs.Asking.{asks-free, asks-two, asks-three, zeros-one, zeros-two}
+use Rattle.turns.proofs.Turns.{holds-part}
 
--- tests of a list in two parts
-pub any-left : {A : Type 0} (p : A → Bool) (xs ys : List A) → any p xs ≡ true → any p (xs ++ ys) ≡ true
-any-left p [] ys h = absurd (false≢true h)
-any-left p (x ∷ xs) ys h = go (p x) (λ k. any-left p xs ys k) h
-  where
-    go : (b : Bool) → (any p xs ≡ true → any p (xs ++ ys) ≡ true) → (b || any p xs) ≡ true → (b || any p (xs ++ ys)) ≡ true
-    go true f k = refl
-    go false f k = f k
+-- the second of two turns
+pub second-turn : {step next : ℕ} {rs₀ ws₀ : List ℕ} {text₀ : Bytes} {marks : List ℕ} {n : ℕ} {a b : Wrote} {os o s os₂ o₂ s₂ os′ o′ s′ : List ℕ} {large : Bool} (k : Turns step next rs₀ ws₀ text₀ marks n a os o s os₂ o₂ s₂) → Sized os′ o′ s′ → Stood b large (after step (resolveTable text₀ (k .first .given)) (k .first .stands .table)) os′ o′ s′ → Turning next rs₀ ws₀ text₀ marks n b os′ o′ s′ os o s
+second-turn {step} {text₀ = text₀} {n = n} k z f =
+    let t : Table Bytes = k .first .stands .table in
+    let look : Table Bytes = resolveTable text₀ (k .first .given) in
+    record {
+      given = k .first .given;
+      lent = k .first .lent;
+      stands = record { table = after step look t; large = _; stood = f; count = count-after step n look t (k .first .stands .count); works = record { one = z; other = k .first .stands .works .one } };
+      asks = k .asks₂;
+    }
 
-pub any-right : {A : Type 0} (p : A → Bool) (xs ys : List A) → any p ys ≡ true → any p (xs ++ ys) ≡ true
-any-right p [] ys h = h
-any-right p (x ∷ xs) ys h = or-right (p x) _ (any-right p xs ys h)
+-- the index of a table's names is that of a packed table with these names
+moved : (t : Table Span) (u : Table Bytes) {rules : List ℕ} {text : Bytes} {m : List ℕ} {n : ℕ} {q : Place} {os o s : List ℕ} → n ≡ length u * ruleWidth → Front q u os o s → ruleWords t ≡ rules → names u ≡ names (resolveTable text t)
+    → AllIndexed rules text m → AllIndexed (take n os) (take (q .text) s) m
+moved t u {rules} {text} {m} {n} {q} {os} {o} {s} c f e g d =
+    let h = holds-part u n c f in
+    subst (λ (x : List ℕ). AllIndexed x (take (q .text) s) m) (h .rules)
+    (index-moved t (packedFrom 0 u) (ap names (front-is u f) ∙ g)
+    (subst (λ (x : List ℕ). NamesInside x (length (take (q .text) s))) (sym (h .rules)) (h .names))
+    (subst (λ (x : List ℕ). AllIndexed x text m) (sym e) d))
 
-pub any-neither : {A : Type 0} (p : A → Bool) (xs ys : List A) → any p xs ≡ false → any p ys ≡ false → any p (xs ++ ys) ≡ false
-any-neither p [] ys h k = k
-any-neither p (x ∷ xs) ys h k = go (p x) (λ e. any-neither p xs ys e k) h
-  where
-    go : (b : Bool) → (any p xs ≡ false → any p (xs ++ ys) ≡ false) → (b || any p xs) ≡ false → (b || any p (xs ++ ys)) ≡ false
-    go true f e = e
-    go false f e = f e
-
--- answers that are known
-pub two-done : {a : Two} {n : ℕ} {q : Place} (ts : List (Table Bytes)) (os o s : List ℕ) → a ≡ two.Done n q → TwoAnswer a ts os o s → Ran (n ∷ q .rows ∷ []) q ts os o s
-two-done ts os o s e h = subst (λ (a : Two). TwoAnswer a ts os o s) e h
-
-pub two-full : {a : Two} (ts : List (Table Bytes)) (os o s : List ℕ) → a ≡ two.Full → TwoAnswer a ts os o s → any tooLarge ts ≡ true
-two-full ts os o s e h = subst (λ (a : Two). TwoAnswer a ts os o s) e h
-
-pub five-done : {a : Five} {k l m n : ℕ} {q : Place} (ts : List (Table Bytes)) (os o s : List ℕ) → a ≡ five.Done k l m n q → FiveAnswer a ts os o s → Ran (k ∷ l ∷ m ∷ n ∷ q .rows ∷ []) q ts os o s
-five-done ts os o s e h = subst (λ (a : Five). FiveAnswer a ts os o s) e h
-
-pub five-full : {a : Five} (ts : List (Table Bytes)) (os o s : List ℕ) → a ≡ five.Full → FiveAnswer a ts os o s → any tooLarge ts ≡ true
-five-full ts os o s e h = subst (λ (a : Five). FiveAnswer a ts os o s) e h
+listed-names : (t : Table Bytes) → names (listed t) ≡ names t
+listed-names t = simp each-names
 
 -- a table that is lent and ready
 module _ {rules rows : List ℕ} {text : Bytes} {marks : List ℕ} (r : Ready rules rows text marks) where
   pub ready-lent : Lent (r .given .table) rules rows
   ready-lent = record { rules = sym (r .given .lent .heads); rows = sym (r .given .lent .trees) }
 
-  pub ready-holds : {t : Table Span} → Lent t rules rows → Holds t rules rows text
-  ready-holds l = record { rules = l .rules; rows = l .rows; inside = r .given .inside; names = r .given .hashed .inside }
+  -- every table of these words
+  module _ (t : Table Span) (l : Lent t rules rows) where
+    abbrev t0 : Table Bytes
+    t0 = resolveTable text t
 
-  pub ready-count : (t : Table Span) → Lent t rules rows → length rules ≡ length (resolveTable text t) * 4
-  ready-count t l = omega (arith, ap length (l .rules), rules-length t, resolve-length text t)
+    pub ready-given : skipper.Lent rules rows t
+    ready-given = record { heads = sym (l .rules); trees = sym (l .rows) }
 
-  pub ready-few : (t : Table Span) → Lent t rules rows → length (resolveTable text t) ≤ 256
-  ready-few t l = omega (arith, ready-count t l, r .short)
+    ready-holds : Holds t rules rows text
+    ready-holds = record { rules = l .rules; rows = l .rows; inside = r .given .inside; names = r .given .index .inside }
 
-  pub first-few : (t : Table Span) → Lent t rules rows → length (after 1 (resolveTable text t) (resolveTable text t)) ≤ 256
-  first-few t l = omega (arith, ready-few t l, each-length (stepOf 1 (resolveTable text t)) (resolveTable text t))
+    ready-count : length rules ≡ length t0 * ruleWidth
+    ready-count = omega (arith, ap length (l .rules), rules-length t, resolve-length text t)
 
-  pub first-count : (t : Table Span) → Lent t rules rows → let t0 = resolveTable text t in length rules ≡ length (after 1 t0 t0) * 4
-  first-count t l = omega (arith, ready-count t l, each-length (stepOf 1 (resolveTable text t)) (resolveTable text t))
+    ready-few : length t0 ≤ 256
+    ready-few = omega (arith, ready-count, r .few)
 
-  pub first-passing : {os o s : List ℕ} → Sized os o s → Passing 1 rules rows text marks rules rows text os o s
-  first-passing {os} {o} {s} z =
-      let t : Table Span = r .given .table in
-      let l : Lent t rules rows = ready-lent in
-      record {
-        given = t;
-        lent = l;
-        table = t;
-        holds = ready-holds l;
-        fits = λ _. sized-room (resolveTable text t) z (ready-few t l) (r .fits t l);
-        asks = asks-free rules rows text marks rows text (λ e. omega (arith, e)) (λ e. omega (arith, e)) (λ e. omega (arith, e)) t;
-      }
+    -- the rules of every table are as many
+    pub rotated-count : length rules ≡ length (rotated t0) * ruleWidth
+    rotated-count = count-after 1 (length rules) t0 t0 ready-count
 
-  pub skip-turns : {p : Place} {os o s os₂ o₂ s₂ : List ℕ} → Sized os o s → Sized os₂ o₂ s₂ → let t0 = resolveTable text (r .given .table) in Front p (after 1 t0 t0) os o s → Turns 2 3 rules rows text marks (length rules) p os o s os₂ o₂ s₂
-  skip-turns {p} {os} {o} {s} {os₂} {o₂} {s₂} z z₂ f =
-      let t : Table Span = r .given .table in
-      let l : Lent t rules rows = ready-lent in
-      let t0 : Table Bytes = resolveTable text t in
-      let t1 : Table Bytes = after 1 t0 t0 in
-      let t2 : Table Bytes = after 2 t0 t1 in
-      record {
-        given = t;
-        lent = l;
-        table = t1;
-        front = f;
-        count = first-count t l;
-        sized = z;
-        sized₂ = z₂;
-        asks = asks-two (r .given) (r .lists) t l;
-        asks₂ = asks-three rules rows text marks (wordsOf t2 .rows) (tableText t2) t2 (zeros-two t0 t1 (zeros-one t0 t0 (r .zeros t l)));
-      }
+    skipped-count : length rules ≡ length (skipped t0) * ruleWidth
+    skipped-count = count-after 2 (length rules) t0 (rotated t0) rotated-count
 
-  pub join-turns : {q : Place} (t3 : Table Bytes) {os o s os₂ o₂ s₂ : List ℕ} → length rules ≡ length t3 * 4 → Sized os o s → Sized os₂ o₂ s₂ → Front q t3 os o s → Turns 4 5 rules rows text marks (length rules) q os o s os₂ o₂ s₂
-  join-turns {q} t3 e z z₂ f =
-      let t : Table Span = r .given .table in
-      let t4 : Table Bytes = after 4 (resolveTable text t) t3 in
-      record {
-        given = t;
-        lent = ready-lent;
-        table = t3;
-        front = f;
-        count = e;
-        sized = z;
-        sized₂ = z₂;
-        asks = asks-free rules rows text marks (wordsOf t3 .rows) (tableText t3) (λ k. omega (arith, k)) (λ k. omega (arith, k)) (λ k. omega (arith, k)) (packedFrom 0 t3);
-        asks₂ = asks-free rules rows text marks (wordsOf t4 .rows) (tableText t4) (λ k. omega (arith, k)) (λ k. omega (arith, k)) (λ k. omega (arith, k)) (packedFrom 0 t4);
-      }
+    pub unrolled-count : length rules ≡ length (unrolled t0) * ruleWidth
+    unrolled-count = count-after 3 (length rules) t0 (skipped t0) skipped-count
 
-  -- the rules of every table are as many
-  pub third-count : (t : Table Span) → Lent t rules rows → let t0 = resolveTable text t in length rules ≡ length (after 3 t0 (after 2 t0 (after 1 t0 t0))) * 4
-  third-count t l =
-      let t0 : Table Bytes = resolveTable text t in
-      let t1 : Table Bytes = after 1 t0 t0 in
-      let t2 : Table Bytes = after 2 t0 t1 in
-      omega (arith, ready-count t l, each-length (stepOf 1 t0) t0, each-length (stepOf 2 t0) t1, each-length (stepOf 3 t0) t2)
+    concatenated-count : length rules ≡ length (concatenated t0) * ruleWidth
+    concatenated-count = count-after 4 (length rules) t0 (unrolled t0) unrolled-count
 
-  pub fifth-count : (t : Table Span) → Lent t rules rows → length rules ≡ length (lastOf (firstFive (resolveTable text t))) * 4
-  fifth-count t l =
-      let t0 : Table Bytes = resolveTable text t in
-      let t3 : Table Bytes = after 3 t0 (after 2 t0 (after 1 t0 t0)) in
-      omega (arith, third-count t l, each-length (stepOf 4 t0) t3, each-length (stepOf 5 t0) (after 4 t0 t3))
+    pub factored-count : length rules ≡ length (factored t0) * ruleWidth
+    factored-count = count-after 5 (length rules) t0 (concatenated t0) concatenated-count
 
--- five steps run
-pub five-ran : {p q r : Place} {m n : ℕ} (t1 t2 t3 t4 t5 : Table Bytes) {os o s os₁ o₁ s₁ os₃ o₃ s₃ : List ℕ} → Sized os₁ o₁ s₁ → Front p t1 os₁ o₁ s₁ → Ran (m ∷ q .rows ∷ []) q (t2 ∷ t3 ∷ []) os₃ o₃ s₃ → Ran (n ∷ r .rows ∷ []) r (t4 ∷ t5 ∷ []) os o s → Ran (p .rows ∷ m ∷ q .rows ∷ n ∷ r .rows ∷ []) r (t1 ∷ t2 ∷ t3 ∷ t4 ∷ t5 ∷ []) os o s
-five-ran {p} t1 t2 t3 t4 t5 z f a b =
-    let c : any tooLarge (t1 ∷ []) ≡ false = rw (front-fine t1 z f) refl in
-    record {
-      counts = ap₂ _∷_ (f .rows) (ap₂ _++_ (a .counts) (b .counts));
-      fits = any-neither tooLarge (t1 ∷ []) (t2 ∷ t3 ∷ t4 ∷ t5 ∷ []) c (any-neither tooLarge (t2 ∷ t3 ∷ []) (t4 ∷ t5 ∷ []) (a .fits) (b .fits));
-      front = b .front;
-    }
+    pub listed-count : length rules ≡ length (listed t0) * ruleWidth
+    listed-count = count-after 6 (length rules) t0 (factored t0) factored-count
+
+    pub restored-count : length rules ≡ length (restored t0) * ruleWidth
+    restored-count = count-after 7 (length rules) (listed t0) (listed t0) listed-count
+
+    -- step 1
+    pub first-passing : {os o s : List ℕ} → Sized os o s → Passing 1 rules rows text marks rules rows text os o s
+    first-passing z =
+        record {
+          given = t;
+          lent = l;
+          table = t;
+          holds = ready-holds;
+          fits = λ _. sized-room t0 z ready-few (r .fits t ready-given);
+          asks = asks-free rules rows text marks rows text (λ e. omega (arith, e)) (λ e. omega (arith, e)) (λ e. omega (arith, e)) t;
+        }
+
+    pub first-rules : {os o s : List ℕ} → Sized os o s → length rules ≤ length os
+    first-rules z = omega (arith, r .few, z .rules)
+
+    pub first-stood : (a : Wrote) {os o s os′ o′ s′ : List ℕ} → Sized os o s → Sized os′ o′ s′ → ((gs ts : Table Span) → Lent gs rules rows → Holds ts rules rows text → PassAnswer a (each (stepOf 1 (resolveTable text gs)) (resolveTable text ts)) os o s os′ o′ s′) → Stood a (tooLarge (rotated t0)) (rotated t0) os′ o′ s′
+    first-stood a z z′ h = pass-stood a (rotated t0) refl z z′ (omega (arith, ready-few, each-length (stepOf 1 t0) t0)) (h t t l ready-holds)
+
+    -- steps 2 and 3, 4 and 5, 6
+    abbrev stands : {a : Wrote} {large : Bool} (u : Table Bytes) {os o s os₂ o₂ s₂ : List ℕ} → length rules ≡ length u * ruleWidth → Works os o s os₂ o₂ s₂ → Stood a large u os o s → Stands (length rules) a os o s os₂ o₂ s₂
+    stands u e z f = record { table = u; large = _; stood = f; count = e; works = z }
+
+    pub skip-turns : {a : Wrote} {large : Bool} {os o s os₂ o₂ s₂ : List ℕ} → Works os o s os₂ o₂ s₂ → Stood a large (rotated t0) os o s → Turns 2 3 rules rows text marks (length rules) a os o s os₂ o₂ s₂
+    skip-turns z f =
+        let t2 : Table Bytes = skipped t0 in
+        record {
+          first = record { given = t; lent = l; stands = stands (rotated t0) rotated-count z f; asks = asks-two (r .given) t l (r .lists t ready-given) };
+          asks₂ = asks-three rules rows text marks (wordsOf t2 .rows) (tableText t2) t2 (zeros-two t0 (rotated t0) (zeros-one t0 t0 (r .zeros t ready-given)));
+        }
+
+    abbrev free-turning : {step : ℕ} {a : Wrote} {large : Bool} (u : Table Bytes) {os o s os₂ o₂ s₂ : List ℕ} → (step ≡ 2 → ⊥) → (step ≡ 3 → ⊥) → (step ≡ 7 → ⊥) → length rules ≡ length u * ruleWidth → Works os o s os₂ o₂ s₂ → Stood a large u os o s → Turning step rules rows text marks (length rules) a os o s os₂ o₂ s₂
+    free-turning u x y v e z f = record { given = t; lent = l; stands = stands u e z f; asks = asks-free rules rows text marks (wordsOf u .rows) (tableText u) x y v (packedFrom 0 u) }
+
+    pub join-turns : {a : Wrote} {large : Bool} {os o s os₂ o₂ s₂ : List ℕ} → Works os o s os₂ o₂ s₂ → Stood a large (unrolled t0) os o s → Turns 4 5 rules rows text marks (length rules) a os o s os₂ o₂ s₂
+    join-turns z f =
+        let t4 : Table Bytes = concatenated t0 in
+        record {
+          first = free-turning (unrolled t0) (λ e. omega (arith, e)) (λ e. omega (arith, e)) (λ e. omega (arith, e)) unrolled-count z f;
+          asks₂ = asks-free rules rows text marks (wordsOf t4 .rows) (tableText t4) (λ e. omega (arith, e)) (λ e. omega (arith, e)) (λ e. omega (arith, e)) (packedFrom 0 t4);
+        }
+
+    pub list-turning : {a : Wrote} {large : Bool} {os o s os₂ o₂ s₂ : List ℕ} → Works os o s os₂ o₂ s₂ → Stood a large (factored t0) os o s → Turning 6 rules rows text marks (length rules) a os o s os₂ o₂ s₂
+    list-turning z f = free-turning (factored t0) (λ e. omega (arith, e)) (λ e. omega (arith, e)) (λ e. omega (arith, e)) factored-count z f
+
+    -- step 7: the marks index the names of every table, since no step changes a name
+    pub restoring : {a : Wrote} {large : Bool} {os o s os₂ o₂ s₂ : List ℕ} → Works os o s os₂ o₂ s₂ → Stood a large (listed t0) os o s → Restoring marks (length rules) a os o s os₂ o₂ s₂
+    restoring z f = record { stands = stands (listed t0) listed-count z f; index = λ q e. moved t (listed t0) listed-count (f .front q e) (l .rules) (listed-names t0) (r .given .index) }
 
 -- all seven
-pub all-ran : {p q : Place} {i j k l m : ℕ} (t : Table Bytes) {os o s os₅ o₅ s₅ : List ℕ} → Ran (i ∷ j ∷ k ∷ l ∷ p .rows ∷ []) p (firstFive t) os₅ o₅ s₅ → Ran (m ∷ q .rows ∷ []) q (lastTwo (lastOf (firstFive t))) os o s → Ran (i ∷ j ∷ k ∷ l ∷ p .rows ∷ m ∷ q .rows ∷ []) q (firstFive t ++ lastTwo (lastOf (firstFive t))) os o s
-all-ran t a b = record { counts = ap₂ _++_ (a .counts) (b .counts); fits = any-neither tooLarge (firstFive t) (lastTwo (lastOf (firstFive t))) (a .fits) (b .fits); front = b .front }
+nested : (a b c d e f g : Bool) → ((((((a || b) || c) || d) || e) || f) || g) ≡ (a || (b || (c || (d || (e || (f || (g || false)))))))
+nested true b c d e f g = refl
+nested false true c d e f g = refl
+nested false false true d e f g = refl
+nested false false false true e f g = refl
+nested false false false false true f g = refl
+nested false false false false false true g = refl
+nested false false false false false false true = refl
+nested false false false false false false false = refl
 
--- what ends a run of five at its second pair, or at its third
-pub second-stop : (t : Table Bytes) → let t1 = after 1 t t in let t2 = after 2 t t1 in any tooLarge (t2 ∷ after 3 t t2 ∷ []) ≡ true → any tooLarge (firstFive t) ≡ true
-second-stop t h =
-    let t1 : Table Bytes = after 1 t t in
-    let t2 : Table Bytes = after 2 t t1 in
-    let t3 : Table Bytes = after 3 t t2 in
-    let t4 : Table Bytes = after 4 t t3 in
-    any-right tooLarge (t1 ∷ []) (t2 ∷ t3 ∷ t4 ∷ after 5 t t4 ∷ []) (any-left tooLarge (t2 ∷ t3 ∷ []) (t4 ∷ after 5 t t4 ∷ []) h)
+first-of : (a b : Bool) → (a || b) ≡ false → a ≡ false
+first-of true b h = h
+first-of false b h = refl
 
-pub third-stop : (t : Table Bytes) → let t3 = after 3 t (after 2 t (after 1 t t)) in let t4 = after 4 t t3 in any tooLarge (t4 ∷ after 5 t t4 ∷ []) ≡ true → any tooLarge (firstFive t) ≡ true
-third-stop t h =
-    let t1 : Table Bytes = after 1 t t in
-    let t2 : Table Bytes = after 2 t t1 in
-    let t3 : Table Bytes = after 3 t t2 in
-    let t4 : Table Bytes = after 4 t t3 in
-    any-right tooLarge (t1 ∷ t2 ∷ t3 ∷ []) (t4 ∷ after 5 t t4 ∷ []) h
+pub seven-of : {i j k l m n i′ j′ k′ l′ m′ n′ : ℕ} {w : Wrote} {y : Place} → i ≡ i′ → j ≡ j′ → k ≡ k′ → l ≡ l′ → m ≡ m′ → n ≡ n′ → w ≡ Done y → seven.Done i j k l m n y ≡ sevenOf i′ j′ k′ l′ m′ n′ w
+seven-of a b c d e f g = rw (a, b, c, d, e, f, g) refl
+
+-- whether one of the tables up to a step is too large
+module _ (t : Table Bytes) where
+  abbrev pub large3 : Bool
+  large3 = (tooLarge (rotated t) || tooLarge (skipped t)) || tooLarge (unrolled t)
+
+  abbrev pub large5 : Bool
+  large5 = (large3 || tooLarge (concatenated t)) || tooLarge (factored t)
+
+  abbrev pub large6 : Bool
+  large6 = large5 || tooLarge (listed t)
+
+  pub seven-answer : {x : Seven} (p : Wrote) {q r : Two} (v w : Wrote) {os₁ o₁ s₁ os₃ o₃ s₃ os₅ o₅ s₅ os₆ o₆ s₆ os o s : List ℕ} → x ≡ sevenOf (rowsOf p) (rowsOf (q .first)) (rowsOf (q .last)) (rowsOf (r .first)) (rowsOf (r .last)) (rowsOf v) w → Stood p (tooLarge (rotated t)) (rotated t) os₁ o₁ s₁ → Paired q (tooLarge (rotated t)) (skipped t) (unrolled t) os₃ o₃ s₃ → Paired r large3 (concatenated t) (factored t) os₅ o₅ s₅ → Stood v large6 (listed t) os₆ o₆ s₆ → Stood w (large6 || tooLarge (restored t)) (restored t) os o s → SevenAnswer x (allSeven t) os o s
+  seven-answer p {q} {r} v w {os = os} {o = o} {s = s} e a b c d f = subst (λ (y : Seven). SevenAnswer y (allSeven t) os o s) (sym e) (go w f)
+    where
+      all : (large6 || tooLarge (restored t)) ≡ any tooLarge (allSeven t)
+      all = nested (tooLarge (rotated t)) (tooLarge (skipped t)) (tooLarge (unrolled t)) (tooLarge (concatenated t)) (tooLarge (factored t)) (tooLarge (listed t)) (tooLarge (restored t))
+
+      go : (w : Wrote) → Stood w (large6 || tooLarge (restored t)) (restored t) os o s → SevenAnswer (sevenOf (rowsOf p) (rowsOf (q .first)) (rowsOf (q .last)) (rowsOf (r .first)) (rowsOf (r .last)) (rowsOf v) w) (allSeven t) os o s
+      go (Done y) f =
+          let l7 : (large6 || tooLarge (restored t)) ≡ false = f .fits y refl in
+          let l6 : large6 ≡ false = first-of large6 _ l7 in
+          let l5 : large5 ≡ false = first-of large5 _ l6 in
+          let l4 : (large3 || tooLarge (concatenated t)) ≡ false = first-of (large3 || tooLarge (concatenated t)) _ l5 in
+          let l3 : large3 ≡ false = first-of large3 _ l4 in
+          let l2 : (tooLarge (rotated t) || tooLarge (skipped t)) ≡ false = first-of (tooLarge (rotated t) || tooLarge (skipped t)) _ l3 in
+          let h1 : rowsOf p ≡ rowCount (rotated t) = stood-rows p a (first-of (tooLarge (rotated t)) _ l2) in
+          let h2 : rowsOf (q .first) ≡ rowCount (skipped t) = b .rows l2 in
+          let h3 : rowsOf (q .last) ≡ rowCount (unrolled t) = stood-rows (q .last) (b .stood) l3 in
+          let h4 : rowsOf (r .first) ≡ rowCount (concatenated t) = c .rows l4 in
+          let h5 : rowsOf (r .last) ≡ rowCount (factored t) = stood-rows (r .last) (c .stood) l5 in
+          let h6 : rowsOf v ≡ rowCount (listed t) = stood-rows v d l6 in
+          let h7 : y .rows ≡ rowCount (restored t) = f .front y refl .rows in
+          record { counts = same h1 h2 h3 h4 h5 h6 h7; fits = sym all ∙ l7; front = f .front y refl }
+        where
+          same : {i j k l m n x i′ j′ k′ l′ m′ n′ x′ : ℕ} → i ≡ i′ → j ≡ j′ → k ≡ k′ → l ≡ l′ → m ≡ m′ → n ≡ n′ → x ≡ x′ → _≡_ {A = List ℕ} (i ∷ j ∷ k ∷ l ∷ m ∷ n ∷ x ∷ []) (i′ ∷ j′ ∷ k′ ∷ l′ ∷ m′ ∷ n′ ∷ x′ ∷ [])
+          same a b c d e f g = cc
+      go Full f = sym all ∙ f .full refl

@@ -1,17 +1,15 @@
 -- Work areas of full size: a table fits them exactly where it is not too large. Assumes nothing.
-use mathlib.Core.Path.{_≡_, refl, sym, ap, ap₂, _∙_, subst}
-use mathlib.Core.Bool.{Bool, true, false, _||_}
-use mathlib.Core.List.{List, [], _∷_}
+use mathlib.Core.Path.{_≡_, refl, sym, _∙_, subst}
+use mathlib.Core.Bool.{true≢false, Bool, true, false, _||_}
+use mathlib.Core.List.{List}
 use Prim.Native.Nat.{ℕ, _*_, _/_, _^_, _≤_, _<_}
 use native.Mathlib.Omega.{arith}
 use borrow.Author.Tests.{ltb-false, le-ltb}
 use lib.ListN.{length}
 use lib.Dec.{ltb}
-use Rattle.grammar.specs.Basic.{Bytes, any}
-use Rattle.grammar.specs.Tree.{E}
-use Rattle.grammar.specs.Rows.{Span}
-use Rattle.grammar.specs.Table.{Table, rowCount, tableText, packedFrom, resolveTable, wordsOf}
-use Rattle.grammar.specs.Steps.{each}
+use Rattle.grammar.specs.Numbers.{ruleWidth}
+use Rattle.grammar.specs.Basic.{Bytes}
+use Rattle.grammar.specs.Table.{Table, rowCount, tableText}
 use Rattle.grammar.specs.Refusals.{tooLarge}
 use Rattle.grammar.proofs.Logic.{or-left, or-right}
 use Rattle.refusals.proofs.Fours.{neither-left, neither-right}
@@ -19,9 +17,9 @@ use Rattle.writing.specs.Writes.{Areas}
 use Rattle.writing.specs.declared.Place.{Place}
 use Rattle.writing.specs.declared.Wrote.{Wrote}
 use Rattle.writing.specs.declared.Wrote.the-variants.{Done, Full}
-use Rattle.passes.specs.Passes.{stepOf, AsksAll, Front, TableFits, PassAnswer}
+use Rattle.passes.specs.Passes.{stepOf, Front, TableFits, PassAnswer}
 use Rattle.passes.proofs.Tables.{each-length}
-use Rattle.turns.specs.Chain.{Turning, Sized, after, Turns, Ran}
+use Rattle.turns.specs.Chain.{Sized, Stood, after, rowsOf}
 use Rattle.turns.proofs.Fronts.{front-within}
 
 pub sized-areas : {os o s : List ℕ} → Sized os o s → Areas o s
@@ -55,56 +53,43 @@ front-fine t z f = room-sized t z (front-room t f)
 pub front-few : {q : Place} {os o s : List ℕ} (t : Table Bytes) → Sized os o s → Front q t os o s → length t ≤ 256
 front-few t z f = omega (arith, front-within t f .0, z .rules)
 
--- an answer that is known
-pub done-front : {a : Wrote} {q : Place} (t : Table Bytes) (os o s os′ o′ s′ : List ℕ) → a ≡ Done q → PassAnswer a t os o s os′ o′ s′ → Front q t os′ o′ s′
-done-front t os o s os′ o′ s′ e h = subst (λ (a : Wrote). PassAnswer a t os o s os′ o′ s′) e h
+-- what the steps so far came to, by their answer
+pub full-stood : {large : Bool} {t : Table Bytes} {os o s : List ℕ} → large ≡ true → Stood Full large t os o s
+full-stood h = record { full = λ _. h; fits = λ q e. let z : _≡_ {A = ℕ} 0 1 = cc in absurd (omega arith); front = λ q e. let z : _≡_ {A = ℕ} 0 1 = cc in absurd (omega arith) }
 
-pub full-large : {a : Wrote} (t : Table Bytes) (os o s os′ o′ s′ : List ℕ) → Sized os o s → length t ≤ 256 → a ≡ Full → PassAnswer a t os o s os′ o′ s′ → tooLarge t ≡ true
-full-large t os o s os′ o′ s′ z l e h = go (tooLarge t) refl
+done-stood : {p : Place} {large : Bool} {t : Table Bytes} {os o s : List ℕ} → large ≡ false → Front p t os o s → Stood (Done p) large t os o s
+done-stood {p} {large} {t} {os} {o} {s} h f =
+    record { full = λ e. let z : _≡_ {A = ℕ} 0 1 = cc in absurd (omega arith); fits = λ _ _. h; front = λ q e. let z : p ≡ q = cc in subst (λ (x : Place). Front x t os o s) z f }
+
+-- the rows of the last table
+pub stood-rows : (a : Wrote) {large : Bool} {t : Table Bytes} {os o s : List ℕ} → Stood a large t os o s → large ≡ false → rowsOf a ≡ rowCount t
+stood-rows (Done q) h e = h .front q refl .rows
+stood-rows Full h e = absurd (true≢false (sym (h .full refl) ∙ e))
+
+-- one table more: it stands in areas of full size, or was not written, or did not fit
+neither : (a b : Bool) → a ≡ false → b ≡ false → (a || b) ≡ false
+neither a b h k = rw (h, k) refl
+
+pub front-stood : {p : Place} {large : Bool} (t : Table Bytes) {os o s : List ℕ} → large ≡ false → Sized os o s → Front p t os o s → Stood (Done p) (large || tooLarge t) t os o s
+front-stood {large = large} t e z f = done-stood (neither large (tooLarge t) e (front-fine t z f)) f
+
+pub full-stays : {a : Wrote} {large : Bool} {t : Table Bytes} {os o s : List ℕ} (u : Table Bytes) {os′ o′ s′ : List ℕ} → Stood a large t os o s → a ≡ Full → Stood Full (large || tooLarge u) u os′ o′ s′
+full-stays {large = large} u h e = full-stood (or-left large (tooLarge u) (h .full e))
+
+full-large : (t : Table Bytes) (os o s : List ℕ) → Sized os o s → length t ≤ 256 → (TableFits t os o s → ⊥) → tooLarge t ≡ true
+full-large t os o s z l h = go (tooLarge t) refl
   where
     go : (b : Bool) → tooLarge t ≡ b → b ≡ true
     go true q = refl
-    go false q = absurd (subst (λ (a : Wrote). PassAnswer a t os o s os′ o′ s′) e h (sized-room t z l q))
+    go false q = absurd (h (sized-room t z l q))
 
--- the two turns of a pair
-pub first-turn : {step next : ℕ} {rs₀ ws₀ : List ℕ} {text₀ : Bytes} {marks : List ℕ} {n : ℕ} {p : Place} {os o s os₂ o₂ s₂ : List ℕ} → Turns step next rs₀ ws₀ text₀ marks n p os o s os₂ o₂ s₂ → Turning step rs₀ ws₀ text₀ marks n p os o s os₂ o₂ s₂
-first-turn k =
-    record {
-      given = k .given;
-      lent = k .lent;
-      table = k .table;
-      front = k .front;
-      count = k .count;
-      room = sized-room (k .table) (k .sized₂) (front-few (k .table) (k .sized) (k .front)) (front-fine (k .table) (k .sized) (k .front));
-      asks = k .asks;
-    }
+pub pass-stood : (a : Wrote) {large : Bool} (t : Table Bytes) {os o s os′ o′ s′ : List ℕ} → large ≡ false → Sized os o s → Sized os′ o′ s′ → length t ≤ 256 → PassAnswer a t os o s os′ o′ s′ → Stood a (large || tooLarge t) t os′ o′ s′
+pass-stood (Done q) t e z z′ l h = front-stood t e z′ h
+pass-stood Full {large} t {os} {o} {s} e z z′ l h = full-stood (or-right large (tooLarge t) (full-large t os o s z l h))
 
-pub second-turn : {step next : ℕ} {rs₀ ws₀ : List ℕ} {text₀ : Bytes} {marks : List ℕ} {n : ℕ} {p q : Place} {os o s os₂ o₂ s₂ os′ o′ s′ : List ℕ} (k : Turns step next rs₀ ws₀ text₀ marks n p os o s os₂ o₂ s₂) → Sized os′ o′ s′ → Front q (after step (resolveTable text₀ (k .given)) (k .table)) os′ o′ s′ → Turning next rs₀ ws₀ text₀ marks n q os′ o′ s′ os o s
-second-turn {step} {next} {rs₀} {ws₀} {text₀} k z f =
-    let t : Table Bytes = after step (resolveTable text₀ (k .given)) (k .table) in
-    record {
-      given = k .given;
-      lent = k .lent;
-      table = t;
-      front = f;
-      count = omega (arith, k .count, each-length (stepOf step (resolveTable text₀ (k .given))) (k .table));
-      room = sized-room t (k .sized) (front-few t z f) (front-fine t z f);
-      asks = k .asks₂;
-    }
-
--- a pair that ends at its first table, or at its second
-pub first-large : {a : Wrote} (t u : Table Bytes) (os o s os′ o′ s′ : List ℕ) → Sized os o s → length t ≤ 256 → a ≡ Full → PassAnswer a t os o s os′ o′ s′ → any tooLarge (t ∷ u ∷ []) ≡ true
-first-large t u os o s os′ o′ s′ z l e h = or-left (tooLarge t) _ (full-large t os o s os′ o′ s′ z l e h)
-
-pub second-large : {a : Wrote} (t u : Table Bytes) (os o s os′ o′ s′ : List ℕ) → Sized os o s → length u ≤ 256 → a ≡ Full → PassAnswer a u os o s os′ o′ s′ → any tooLarge (t ∷ u ∷ []) ≡ true
-second-large t u os o s os′ o′ s′ z l e h = or-right (tooLarge t) _ (or-left (tooLarge u) _ (full-large u os o s os′ o′ s′ z l e h))
-
--- or at its end
-pub pair-ran : {q r : Place} (t u : Table Bytes) {os o s os′ o′ s′ : List ℕ} → Sized os o s → Front q t os o s → Sized os′ o′ s′ → Front r u os′ o′ s′ → Ran (q .rows ∷ r .rows ∷ []) r (t ∷ u ∷ []) os′ o′ s′
-pair-ran t u z f z′ f′ = record { counts = ap₂ (λ (a b : ℕ). a ∷ b ∷ []) (f .rows) (f′ .rows); fits = rw (front-fine t z f, front-fine u z′ f′) refl; front = f′ }
-
+-- a step keeps the number of rules
 pub few-after : (step : ℕ) (look t : Table Bytes) {p : Place} {os o s : List ℕ} → Sized os o s → Front p t os o s → length (after step look t) ≤ 256
 few-after step look t z f = omega (arith, each-length (stepOf step look) t, front-few t z f)
 
-pub count-after : (step n : ℕ) (look t : Table Bytes) → n ≡ length t * 4 → n ≡ length (after step look t) * 4
+pub count-after : (step n : ℕ) (look t : Table Bytes) → n ≡ length t * ruleWidth → n ≡ length (after step look t) * ruleWidth
 count-after step n look t e = omega (arith, e, each-length (stepOf step look) t)

@@ -1,39 +1,73 @@
 // The seven steps in their order, from one work table to the other.
 ghost use mathlib.Core.Path.{_≡_};
-ghost use mathlib.Core.List.{[], _∷_};
-ghost use Prim.Native.Nat.{ℕ, _+_, _*_, _/_, _^_, _≤_, _<_};
-ghost use lib.ListN.{length, take};
+ghost use mathlib.Core.Bool.{Bool, _||_};
+ghost use Prim.Native.Nat.{ℕ, _*_};
+ghost use lib.ListN.{length};
+ghost use Rattle.grammar.specs.Numbers.{ruleWidth};
 ghost use Rattle.grammar.specs.Basic.{Bytes};
 ghost use Rattle.grammar.specs.Rows.{Span};
 ghost use Rattle.grammar.specs.Table.{Table, resolveTable};
-ghost use Rattle.grammar.specs.Steps.{each};
-ghost use Rattle.writing.specs.Writes.{Areas};
-ghost use Rattle.names.specs.Names.{Hashed};
-ghost use Rattle.passes.specs.Passes.{stepOf, Lent, Front, PassAnswer};
-ghost use Rattle.turns.specs.Chain.{Turning, Turns, after, TwoAnswer, FiveAnswer, SevenAnswer, firstFive, lastTwo, allSeven, Ready, Works, Stands, Restorable, Owns};
+ghost use Rattle.grammar.specs.Refusals.{tooLarge};
+ghost use Rattle.passes.specs.Passes.{Lent};
+ghost use Rattle.admission.specs.Ready.{Ready};
+ghost use Rattle.turns.specs.Chain.{after, rowsOf, sevenOf, Works, Stood, Turning, Turns, Paired, Restoring, SevenAnswer, allSeven};
+use grammar::ROW_WIDTH;
+use passes::CONCATENATE_STEP;
+use passes::FACTOR_STEP;
+use passes::LIST_STEP;
+use passes::RESTORE_STEP;
+use passes::ROTATE_STEP;
+use passes::SKIP_STEP;
+use passes::UNROLL_STEP;
 use writing::Place;
 use writing::Wrote;
 
-// Two steps: the rows after the first, and where the second's table ends.
-pub enum Two {
-    Done(usize, Place),
-    Full,
+// What each of two steps wrote.
+pub struct Two {
+    pub first: Wrote,
+    pub last: Wrote,
 }
 
-// Five: the rows after the first four, and where the last's table ends.
-pub enum Five {
-    Done(usize, usize, usize, usize, Place),
-    Full,
-}
-
-// Seven.
+// Seven steps: the rows after the first six, and where the last's table ends.
 pub enum Seven {
     Done(usize, usize, usize, usize, usize, usize, Place),
     Full,
 }
 
-// A step from the packed table in front of one work table, up to p, to the other work table: copied as it is where the rows show that the step
-// leaves it so, which is cheaper than rule by rule.
+// The rows that a step wrote, 0 where it wrote none.
+fn rows_of(a: Wrote) -> usize
+    ensures { λ r. ⌜ r ≡ rowsOf a ⌝ }
+{
+    let Wrote::Done(p) = a else {
+        return 0;
+    };
+    p.rows
+}
+
+// What seven steps wrote, in one.
+fn joined(a: Wrote, b: Two, c: Two, d: Wrote, e: Wrote) -> Seven
+    ensures { λ r. ⌜ r ≡ sevenOf (rowsOf a) (rowsOf (b .first)) (rowsOf (b .last)) (rowsOf (c .first)) (rowsOf (c .last)) (rowsOf d) e ⌝ }
+{
+    let Wrote::Done(q) = e else {
+        return Seven::Full;
+    };
+    let f = b.first;
+    let g = b.last;
+    let h = c.first;
+    let i = c.last;
+    Seven::Done(
+        rows_of(a),
+        rows_of(f),
+        rows_of(g),
+        rows_of(h),
+        rows_of(i),
+        rows_of(d),
+        q,
+    )
+}
+
+// A step from the packed table in front of one work table, up to the place that the step before it left, to the other work table: copied as it is where
+// the rows show that the step leaves it so, which is cheaper than rule by rule. After a step that found no room there is nothing to do.
 fn turn(
     step: u32,
     heads0: &[u32],
@@ -41,7 +75,7 @@ fn turn(
     text0: &[u8],
     marks: &[u32],
     count: usize,
-    p: Place,
+    last: Wrote,
     heads: &[u32],
     rows: &[u32],
     text: &[u8],
@@ -49,11 +83,13 @@ fn turn(
     rows2: &mut [u32],
     text2: &mut [u8],
 ) -> Wrote
-    requires { ⌜ Turning step (now heads0) (now rows0) (now text0) (now marks) count p (now heads) (now rows) (now text) (now heads2) (now rows2) (now text2) ⌝ }
-    requires { ⌜ Areas (now rows2) (now text2) ⌝ }
-    ensures { λ a. ⌜ ((gs : Table Span) (t : Table Bytes) → Lent gs (now (heads0 .entry)) (now (rows0 .entry)) → Front p t (now (heads .entry)) (now (rows .entry)) (now (text .entry)) → count ≡ length t * 4 → PassAnswer a (each (stepOf step (resolveTable (now (text0 .entry)) gs)) t) (now (heads2 .entry)) (now (rows2 .entry)) (now (text2 .entry)) (now (heads2 .exit)) (now (rows2 .exit)) (now (text2 .exit))) ⌝ }
+    requires { ⌜ Turning step (now heads0) (now rows0) (now text0) (now marks) count last (now heads) (now rows) (now text) (now heads2) (now rows2) (now text2) ⌝ }
+    ensures { λ a. ⌜ ((gs : Table Span) (t : Table Bytes) (large : Bool) → Lent gs (now (heads0 .entry)) (now (rows0 .entry)) → Stood last large t (now (heads .entry)) (now (rows .entry)) (now (text .entry)) → count ≡ length t * ruleWidth → let u : Table Bytes = after step (resolveTable (now (text0 .entry)) gs) t in Stood a (large || tooLarge u) u (now (heads2 .exit)) (now (rows2 .exit)) (now (text2 .exit))) ⌝ }
 {
-    let words = p.rows * 4;
+    let Wrote::Done(p) = last else {
+        return Wrote::Full;
+    };
+    let words = p.rows * ROW_WIDTH;
     let bytes = p.text;
     let h = &heads[..count];
     let r = &rows[..words];
@@ -86,7 +122,7 @@ fn two_steps(
     text0: &[u8],
     marks: &[u32],
     count: usize,
-    p: Place,
+    last: Wrote,
     heads: &mut [u32],
     rows: &mut [u32],
     text: &mut [u8],
@@ -94,27 +130,25 @@ fn two_steps(
     rows2: &mut [u32],
     text2: &mut [u8],
 ) -> Two
-    requires { ⌜ Turns step next (now heads0) (now rows0) (now text0) (now marks) count p (now heads) (now rows) (now text) (now heads2) (now rows2) (now text2) ⌝ }
-    ensures { λ a. ⌜ ((gs : Table Span) (t : Table Bytes) → Lent gs (now (heads0 .entry)) (now (rows0 .entry)) → Front p t (now (heads .entry)) (now (rows .entry)) (now (text .entry)) → count ≡ length t * 4 → let look : Table Bytes = resolveTable (now (text0 .entry)) gs in TwoAnswer a (after step look t ∷ after next look (after step look t) ∷ []) (now (heads .exit)) (now (rows .exit)) (now (text .exit))) ⌝ }
+    requires { ⌜ Turns step next (now heads0) (now rows0) (now text0) (now marks) count last (now heads) (now rows) (now text) (now heads2) (now rows2) (now text2) ⌝ }
+    ensures { λ a. ⌜ ((gs : Table Span) (t : Table Bytes) (large : Bool) → Lent gs (now (heads0 .entry)) (now (rows0 .entry)) → Stood last large t (now (heads .entry)) (now (rows .entry)) (now (text .entry)) → count ≡ length t * ruleWidth → let look : Table Bytes = resolveTable (now (text0 .entry)) gs in Paired a large (after step look t) (after next look (after step look t)) (now (heads .exit)) (now (rows .exit)) (now (text .exit))) ⌝ }
 {
-    let Wrote::Done(q) = turn(
+    let q = turn(
         step,
         heads0,
         rows0,
         text0,
         marks,
         count,
-        p,
+        last,
         heads,
         rows,
         text,
         heads2,
         rows2,
         text2,
-    ) else {
-        return Two::Full;
-    };
-    let Wrote::Done(r) = turn(
+    );
+    let r = turn(
         next,
         heads0,
         rows0,
@@ -128,152 +162,16 @@ fn two_steps(
         heads,
         rows,
         text,
-    ) else {
-        return Two::Full;
-    };
-    Two::Done(q.rows, r)
+    );
+    Two { first: q, last: r }
 }
 
-// Steps 1 to 5: rotate, skip, unroll, concatenate, factor.
-fn first_five(
-    rules: &[u32],
-    rows: &[u32],
-    text: &[u8],
-    marks: &[u32],
-    a_rules: &mut [u32],
-    a_rows: &mut [u32],
-    a_text: &mut [u8],
-    b_rules: &mut [u32],
-    b_rows: &mut [u32],
-    b_text: &mut [u8],
-) -> Five
-    requires { ⌜ Ready (now rules) (now rows) (now text) (now marks) ⌝ }
-    requires { ⌜ Works (now «a_rules») (now «a_rows») (now «a_text») (now «b_rules») (now «b_rows») (now «b_text») ⌝ }
-    ensures { λ a. ⌜ ((t : Table Span) → Lent t (now (rules .entry)) (now (rows .entry)) → FiveAnswer a (firstFive (resolveTable (now (text .entry)) t)) (now («a_rules» .exit)) (now («a_rows» .exit)) (now («a_text» .exit))) ⌝ }
-{
-    let Wrote::Done(p) = passes::pass(
-        1,
-        rules,
-        rows,
-        text,
-        marks,
-        rules,
-        rows,
-        text,
-        a_rules,
-        a_rows,
-        a_text,
-    ) else {
-        return Five::Full;
-    };
-    let count = rules.len();
-    let Two::Done(m, q) = two_steps(
-        2,
-        3,
-        rules,
-        rows,
-        text,
-        marks,
-        count,
-        p,
-        a_rules,
-        a_rows,
-        a_text,
-        b_rules,
-        b_rows,
-        b_text,
-    ) else {
-        return Five::Full;
-    };
-    let Two::Done(n, r) = two_steps(
-        4,
-        5,
-        rules,
-        rows,
-        text,
-        marks,
-        count,
-        q,
-        a_rules,
-        a_rows,
-        a_text,
-        b_rules,
-        b_rows,
-        b_text,
-    ) else {
-        return Five::Full;
-    };
-    Five::Done(p.rows, m, q.rows, n, r)
-}
-
-// The marks of a packed table, settled for restore. They index its names already: no step changes a name.
-fn settle(
-    count: usize,
-    p: Place,
-    heads: &[u32],
-    rows: &[u32],
-    text: &[u8],
-    marks: &mut [u32],
-    stack: &mut [u32],
-)
-    requires { ⌜ Stands count p (now heads) (now rows) (now text) ⌝ }
-    requires { ⌜ Hashed (take count (now heads)) (take (p .text) (now text)) (now marks) ⌝ }
-    requires { ⌜ (count ≤ length (now stack)) × (length (now rows) < 2 ^ 32) ⌝ }
-    ensures { λ _. ⌜ Restorable count p (now (heads .entry)) (now (rows .entry)) (now (text .entry)) (now (marks .exit)) ⌝ }
-{
-    let words = p.rows * 4;
-    let bytes = p.text;
-    let h = &heads[..count];
-    let r = &rows[..words];
-    let t = &text[..bytes];
-    restorer::settle(h, r, t, marks, stack);
-}
-
-// A step on a packed table that looks into that table alone.
-fn own(
-    step: u32,
-    marks: &[u32],
-    count: usize,
-    p: Place,
-    heads: &[u32],
-    rows: &[u32],
-    text: &[u8],
-    heads2: &mut [u32],
-    rows2: &mut [u32],
-    text2: &mut [u8],
-) -> Wrote
-    requires { ⌜ Stands count p (now heads) (now rows) (now text) ⌝ }
-    requires { ⌜ Owns step count p (now heads) (now rows) (now text) (now marks) ⌝ }
-    requires { ⌜ Works (now heads) (now rows) (now text) (now heads2) (now rows2) (now text2) ⌝ }
-    ensures { λ a. ⌜ ((t : Table Bytes) → Front p t (now (heads .entry)) (now (rows .entry)) (now (text .entry)) → count ≡ length t * 4 → PassAnswer a (after step t t) (now (heads2 .entry)) (now (rows2 .entry)) (now (text2 .entry)) (now (heads2 .exit)) (now (rows2 .exit)) (now (text2 .exit))) ⌝ }
-{
-    let words = p.rows * 4;
-    let bytes = p.text;
-    let h = &heads[..count];
-    let r = &rows[..words];
-    let t = &text[..bytes];
-    turn(
-        step,
-        h,
-        r,
-        t,
-        marks,
-        count,
-        p,
-        heads,
-        rows,
-        text,
-        heads2,
-        rows2,
-        text2,
-    )
-}
-
-// Step 7 on a packed table: most change no stack, and there is nothing to search for.
+// Step 7, which looks into the table that it is put on: most change no stack, and there is nothing to search for. The marks index the table's names
+// already, since no step changes a name.
 fn restore(
     marks: &mut [u32],
     count: usize,
-    p: Place,
+    last: Wrote,
     heads: &[u32],
     rows: &[u32],
     text: &[u8],
@@ -281,13 +179,15 @@ fn restore(
     rows2: &mut [u32],
     text2: &mut [u8],
 ) -> Wrote
-    requires { ⌜ Hashed (take count (now heads)) (take (p .text) (now text)) (now marks) ⌝ }
-    requires { ⌜ Stands count p (now heads) (now rows) (now text) ⌝ }
-    requires { ⌜ Works (now heads) (now rows) (now text) (now heads2) (now rows2) (now text2) ⌝ }
-    ensures { λ a. ⌜ ((t : Table Bytes) → Front p t (now (heads .entry)) (now (rows .entry)) (now (text .entry)) → count ≡ length t * 4 → PassAnswer a (after 7 t t) (now (heads2 .entry)) (now (rows2 .entry)) (now (text2 .entry)) (now (heads2 .exit)) (now (rows2 .exit)) (now (text2 .exit))) ⌝ }
+    requires { ⌜ Restoring (now marks) count last (now heads) (now rows) (now text) (now heads2) (now rows2) (now text2) ⌝ }
+    ensures { λ a. ⌜ ((t : Table Bytes) (large : Bool) → Stood last large t (now (heads .entry)) (now (rows .entry)) (now (text .entry)) → count ≡ length t * ruleWidth → let u : Table Bytes = after 7 t t in Stood a (large || tooLarge u) u (now (heads2 .exit)) (now (rows2 .exit)) (now (text2 .exit))) ⌝ }
 {
-    let words = p.rows * 4;
+    let Wrote::Done(p) = last else {
+        return Wrote::Full;
+    };
+    let words = p.rows * ROW_WIDTH;
     let bytes = p.text;
+    let h = &heads[..count];
     let r = &rows[..words];
     let t = &text[..bytes];
     if restorer::still(r, t) {
@@ -295,55 +195,8 @@ fn restore(
         return Wrote::Done(p);
     }
     // what step 7 writes to is free until it begins
-    settle(count, p, heads, rows, text, marks, heads2);
-    own(7, marks, count, p, heads, rows, text, heads2, rows2, text2)
-}
-
-// Steps 6 and 7: list, restore.
-fn last_two(
-    marks: &mut [u32],
-    count: usize,
-    p: Place,
-    a_rules: &mut [u32],
-    a_rows: &mut [u32],
-    a_text: &mut [u8],
-    b_rules: &mut [u32],
-    b_rows: &mut [u32],
-    b_text: &mut [u8],
-) -> Two
-    requires { ⌜ Hashed (take count (now «a_rules»)) (take (p .text) (now «a_text»)) (now marks) ⌝ }
-    requires { ⌜ Stands count p (now «a_rules») (now «a_rows») (now «a_text») ⌝ }
-    requires { ⌜ Works (now «a_rules») (now «a_rows») (now «a_text») (now «b_rules») (now «b_rows») (now «b_text») ⌝ }
-    ensures { λ a. ⌜ ((t : Table Bytes) → Front p t (now («a_rules» .entry)) (now («a_rows» .entry)) (now («a_text» .entry)) → count ≡ length t * 4 → TwoAnswer a (lastTwo t) (now («a_rules» .exit)) (now («a_rows» .exit)) (now («a_text» .exit))) ⌝ }
-{
-    let Wrote::Done(q) = own(
-        6,
-        marks,
-        count,
-        p,
-        a_rules,
-        a_rows,
-        a_text,
-        b_rules,
-        b_rows,
-        b_text,
-    ) else {
-        return Two::Full;
-    };
-    let Wrote::Done(r) = restore(
-        marks,
-        count,
-        q,
-        b_rules,
-        b_rows,
-        b_text,
-        a_rules,
-        a_rows,
-        a_text,
-    ) else {
-        return Two::Full;
-    };
-    Two::Done(q.rows, r)
+    restorer::settle(h, r, t, marks, heads2);
+    passes::pass(RESTORE_STEP, h, r, t, marks, h, r, t, heads2, rows2, text2)
 }
 
 // All seven, from the lent table to the first work table.
@@ -363,23 +216,29 @@ pub fn all_steps(
     requires { ⌜ Works (now «a_rules») (now «a_rows») (now «a_text») (now «b_rules») (now «b_rows») (now «b_text») ⌝ }
     ensures { λ a. ⌜ ((t : Table Span) → Lent t (now (rules .entry)) (now (rows .entry)) → SevenAnswer a (allSeven (resolveTable (now (text .entry)) t)) (now («a_rules» .exit)) (now («a_rows» .exit)) (now («a_text» .exit))) ⌝ }
 {
-    let Five::Done(i, j, k, l, p) = first_five(
+    let settled = &marks[..];
+    let p = passes::pass(
+        ROTATE_STEP,
         rules,
         rows,
         text,
-        marks,
+        settled,
+        rules,
+        rows,
+        text,
         a_rules,
         a_rows,
         a_text,
-        b_rules,
-        b_rows,
-        b_text,
-    ) else {
-        return Seven::Full;
-    };
-    let Two::Done(m, q) = last_two(
-        marks,
-        rules.len(),
+    );
+    let count = rules.len();
+    let q = two_steps(
+        SKIP_STEP,
+        UNROLL_STEP,
+        rules,
+        rows,
+        text,
+        settled,
+        count,
         p,
         a_rules,
         a_rows,
@@ -387,8 +246,50 @@ pub fn all_steps(
         b_rules,
         b_rows,
         b_text,
-    ) else {
-        return Seven::Full;
-    };
-    Seven::Done(i, j, k, l, p.rows, m, q)
+    );
+    let unrolled = q.last;
+    let r = two_steps(
+        CONCATENATE_STEP,
+        FACTOR_STEP,
+        rules,
+        rows,
+        text,
+        settled,
+        count,
+        unrolled,
+        a_rules,
+        a_rows,
+        a_text,
+        b_rules,
+        b_rows,
+        b_text,
+    );
+    let factored = r.last;
+    let s = turn(
+        LIST_STEP,
+        rules,
+        rows,
+        text,
+        settled,
+        count,
+        factored,
+        a_rules,
+        a_rows,
+        a_text,
+        b_rules,
+        b_rows,
+        b_text,
+    );
+    let t = restore(
+        marks,
+        count,
+        s,
+        b_rules,
+        b_rows,
+        b_text,
+        a_rules,
+        a_rows,
+        a_text,
+    );
+    joined(p, q, r, s, t)
 }

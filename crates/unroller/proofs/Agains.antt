@@ -4,6 +4,7 @@ use mathlib.Core.List.{List}
 use Prim.Native.Nat.{ℕ, _+_, _-_, _*_, _<_}
 use native.Mathlib.Omega.{arith}
 use lib.ListN.{length}
+use Rattle.grammar.specs.Numbers.{rowWidth}
 use Rattle.grammar.specs.Tree.{E, size}
 use Rattle.grammar.specs.Rows.{flat}
 use Rattle.grammar.specs.Text.{bytesAt, textOf, packed}
@@ -24,7 +25,7 @@ module _ {p q at : Place} {o t : List ℕ} (c : Copyable p q at Once o t) where
       omega (arith, f, s .text, c .beyond, c .fits .text, c .areas .bytes)
 
   pub again-written : {a : Place} {e : E} {o′ t′ : List ℕ} → a .rows ≡ at .rows + (q .rows - p .rows) → a .text ≡ at .text + (q .text - p .text)
-      → o′ ≡ stored o (at .rows * 4) (moved (at .text - p .text) o (p .rows) (q .rows - p .rows))
+      → o′ ≡ stored o (at .rows * rowWidth) (moved (at .text - p .text) o (p .rows) (q .rows - p .rows))
       → t′ ≡ stored t (at .text) (bytesAt t (p .text, q .text - p .text)) → Source p q e o t → Written a at e o o′ t t′
   again-written {a} {e} {o′} {t′} er et ew eb s =
       let n : q .rows - p .rows ≡ size e = omega (arith, s .rows) in

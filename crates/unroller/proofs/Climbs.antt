@@ -5,6 +5,7 @@ use mathlib.Core.List.{List, [], _∷_}
 use Prim.Native.Nat.{ℕ, zero, suc, _+_, _-_, _/_, _≤_, _<_}
 use native.Mathlib.Omega.{arith}
 use lib.ListN.{length}
+use Rattle.grammar.specs.Numbers.{rowWidth}
 use Rattle.grammar.specs.Basic.{Bytes}
 use Rattle.grammar.specs.Tree.{Un, Expr, E, lit, fixed, skip, un, bin, unHead, anyNode}
 use Rattle.grammar.specs.Rows.{Span}
@@ -31,7 +32,7 @@ use Rattle.unroller.proofs.Nodes.{unrolled-larger, answer-over, fits-la
 use Rattle.unroller.proofs.Walks.{or-false, counted-any}
 
 -- the bytes of a literal lie in the text
-pub lit-in : (m : ℕ) (w : List ℕ) (i : ℕ) {x y : ℕ} → Inside w m → i < length w / 4 → shapeOf (kindAt w i) ≡ Lit → x ≡ xAt w i → y ≡ yAt w i → x + y ≤ m
+pub lit-in : (m : ℕ) (w : List ℕ) (i : ℕ) {x y : ℕ} → Inside w m → i < length w / rowWidth → shapeOf (kindAt w i) ≡ Lit → x ≡ xAt w i → y ≡ yAt w i → x + y ≤ m
 lit-in m w i f h s d e = omega (arith, in-text m f (found-row w i h) s, d, e)
 
 -- ---- an unrolled tree is its run, unrolled over the unrolled tree below

@@ -6,6 +6,7 @@ use native.Mathlib.Nat.{add-zero, suc-mul, zero-mul, add-mul, one-mul, mul-le-mu
 use native.Mathlib.Omega.{arith}
 use lib.ListN.{length, take, drop, replicate, length-append, replicate-append-replicate}
 use lib.Seq.{length-take-le}
+use Rattle.grammar.specs.Numbers.{rowWidth}
 use Rattle.grammar.specs.Tree.{Un, unHead, E, un, size}
 use Rattle.grammar.specs.Rows.{flat}
 use Rattle.grammar.specs.Text.{bytesAt, textOf, packed}
@@ -13,7 +14,7 @@ use Rattle.rows.specs.Rows.{At}
 use Rattle.rows.proofs.Laws.{root, at-un, size-pos}
 use Rattle.writing.specs.declared.Place.{Place}
 use Rattle.writing.specs.declared.Wrote.the-variants.{Done}
-use Rattle.writing.specs.Writes.{Put, RowPut, Written}
+use Rattle.writing.specs.Writes.{Put, RowPut, Written, stored}
 use Rattle.writing.proofs.Puts.{put-out, put-lits, put-then, put-none}
 use Rattle.writing.proofs.Trees.{size-packed, length-packed, written-put, written-out, written-lits, un-tree}
 use Rattle.chains.specs.Chains.{sizes, flats, texts, packs}
@@ -33,22 +34,22 @@ add-one-mul k m = add-mul k 1 m ∙ ap (λ (x : ℕ). k * m + x) (one-mul m)
 pub written-source : {q p : Place} {e : E} {o o′ t t′ : List ℕ} → Written q p e o o′ t t′ → Source p q e o′ t′
 written-source {q} {p} {e} {o} {o′} {t} {t′} w =
     let l = length-packed (p .text) e in
-    let f : p .rows * 4 ≤ length o = omega (arith, w .fits .rows) in
+    let f : p .rows * rowWidth ≤ length o = omega (arith, w .fits .rows) in
     record {
       rows = w .rows;
       text = w .text;
       at = record {
-        before = take (p .rows * 4) o;
-        after = drop (p .rows * 4 + length (flat (packed (p .text) e))) o;
-        whole = w .words ∙ stored-parts o _ (p .rows * 4) (omega (arith, l, w .fits .rows));
-        place = omega (arith, length-take-le (p .rows * 4) o f, size-packed (p .text) e, w .rows, size-pos e);
+        before = take (p .rows * rowWidth) o;
+        after = drop (p .rows * rowWidth + length (flat (packed (p .text) e))) o;
+        whole = w .words ∙ stored-parts o _ (p .rows * rowWidth) (omega (arith, l, w .fits .rows));
+        place = omega (arith, length-take-le (p .rows * rowWidth) o f, size-packed (p .text) e, w .rows, size-pos e);
       };
       bytes = ap (λ (u : List ℕ). bytesAt u (p .text, length (textOf e))) (w .bytes) ∙ stored-run t (textOf e) (p .text) (length (textOf e)) refl (w .fits .text);
       within = omega (arith, w .text, w .fits .text, written-lits w);
     }
 
 module _ {p q : Place} {e : E} {o t : List ℕ} (s : Source p q e o t) where
-  pub source-rows : q .rows ≤ length o / 4
+  pub source-rows : q .rows ≤ length o / rowWidth
   source-rows = omega (arith, root (s .at) .inside, s .rows, size-pos e)
 
   pub source-written : Written q p e o o t t
@@ -56,7 +57,7 @@ module _ {p q : Place} {e : E} {o t : List ℕ} (s : Source p q e o t) where
     fits = record { rows = omega (arith, source-rows, s .rows); text = omega (arith, s .text, s .within) };
     rows = s .rows;
     text = s .text;
-    words = sym (stored-same o (flat (packed (p .text) e)) (p .rows * 4) (size e * 4) (at-run (p .rows * 4) (s .at) (ap (λ (n : ℕ). n * 4) (sym (size-packed (p .text) e))) (omega (arith, s .rows, size-pos e))) (omega (arith, source-rows, s .rows)));
+    words = sym (stored-same o (flat (packed (p .text) e)) (p .rows * rowWidth) (size e * rowWidth) (at-run (p .rows * rowWidth) (s .at) (ap (λ (n : ℕ). n * rowWidth) (sym (size-packed (p .text) e))) (omega (arith, s .rows, size-pos e))) (omega (arith, source-rows, s .rows)));
     bytes = sym (stored-same t (textOf e) (p .text) (length (textOf e)) (s .bytes) (omega (arith, s .text, s .within)));
   }
 
@@ -65,7 +66,7 @@ module _ {p q : Place} {e : E} {o t : List ℕ} (s : Source p q e o t) where
   source-put {z} {at} {n} {ws} {bs} {o′} {t′} h k w = record {
     rows = s .rows;
     text = s .text;
-    at = at-front (ap (take ((q .rows - 1) * 4 + 4)) (w .words) ∙ stored-front o ws (at .rows * 4) ((q .rows - 1) * 4 + 4) (omega (arith, s .rows, size-pos e))) (s .at);
+    at = at-front (ap (take ((q .rows - 1) * rowWidth + rowWidth)) (w .words) ∙ stored-front o ws (at .rows * rowWidth) ((q .rows - 1) * rowWidth + rowWidth) (omega (arith, s .rows, size-pos e))) (s .at);
     bytes = ap (λ (u : List ℕ). bytesAt u (p .text, length (textOf e))) (w .bytes) ∙ stored-before t bs (at .text) (p .text) (length (textOf e)) (omega (arith, s .text)) ∙ s .bytes;
     within = omega (arith, s .within, put-lits w);
   }
@@ -126,7 +127,7 @@ finished u {a} {q} {p} {e} {o₂} w r = un-tree w (Done a) u (unHead u) (q .rows
 
 pub laid-append : {z q p : Place} (es fs : List E) {o o₁ o₂ t t₁ t₂ : List ℕ} → Laid q p es o o₁ t t₁ → Laid z q fs o₁ o₂ t₁ t₂ → Laid z p (es ++ fs) o o₂ t t₂
 laid-append {z} {q} {p} es fs {o} {o₁} {o₂} {t} {t₁} {t₂} w v =
-    let l : length (flats (packs (p .text) es)) ≡ sizes es * 4 = length-flats (packs (p .text) es) ∙ ap (λ (n : ℕ). n * 4) (sizes-packs (p .text) es) in
+    let l : length (flats (packs (p .text) es)) ≡ sizes es * rowWidth = length-flats (packs (p .text) es) ∙ ap (λ (n : ℕ). n * rowWidth) (sizes-packs (p .text) es) in
     let y = put-then w l (Done z) (sizes fs) (flats (packs (q .text) fs)) (texts fs) o₂ t₂ v in
     rw (sizes-append es fs, packs-append (p .text) es fs, flats-append (packs (p .text) es) (packs (p .text + length (texts es)) fs), texts-append es fs) (rw (w .text) at y)
 
@@ -143,7 +144,7 @@ texts-replicate (suc n) e = simp length-append (omega (arith, texts-replicate n 
 
 -- ---- n items
 
-pub laid-none : (p : Place) (o t : List ℕ) → p .rows ≤ length o / 4 → p .text ≤ length t → Laid p p [] o o t t
+pub laid-none : (p : Place) (o t : List ℕ) → p .rows ≤ length o / rowWidth → p .text ≤ length t → Laid p p [] o o t t
 laid-none p o t h k = put-none p o t h k
 
 pub laid-more : {z q p : Place} (n : ℕ) (e : E) {o o₁ o₂ t t₁ t₂ : List ℕ} → Laid q p (replicate n e) o o₁ t t₁ → Written z q e o₁ o₂ t₁ t₂ → Laid z p (replicate (n + 1) e) o o₂ t t₂

@@ -7,6 +7,7 @@ use native.Mathlib.Numerals.{add-one, one-add}
 use native.Mathlib.Decide.{decLe}
 use native.Mathlib.Omega.{arith}
 use lib.ListN.{length, length-append}
+use Rattle.grammar.specs.Numbers.{rowWidth}
 use Rattle.grammar.specs.Basic.{Bytes}
 use Rattle.grammar.specs.Tree.{E, Expr, lit, fixed, skip, un, bin, size}
 use Rattle.grammar.specs.Rows.{Span, row, strRows, flat}
@@ -65,7 +66,7 @@ module _ (d : ℕ) (w : List ℕ) where
 
 -- ---- one row, as the code moves it
 
-pub length-moved : (d : ℕ) (w : List ℕ) (i n : ℕ) → length (moved d w i n) ≡ n * 4
+pub length-moved : (d : ℕ) (w : List ℕ) (i n : ℕ) → length (moved d w i n) ≡ n * rowWidth
 unfolding movedRow
 length-moved d w i zero = refl
 length-moved d w i (suc n) = simp length-append (omega (arith, length-moved d w i n))
@@ -87,19 +88,19 @@ module _ {w : List ℕ} {i k x y n : ℕ} (d : ℕ) (f : Found w i k x y n) wher
   other-moved h = rw (f .kind, f .x, f .y, f .rows, not-moved (shapeOf k) d x h)
 
 module _ (d : ℕ) (o v : List ℕ) (i j : ℕ) (h : i < j) where
-  pub front-moved : movedRow d (stored o (j * 4) v) i ≡ movedRow d o i
+  pub front-moved : movedRow d (stored o (j * rowWidth) v) i ≡ movedRow d o i
   unfolding movedRow kindAt xAt yAt sizeAt
   front-moved =
-      rw (stored-word o v (j * 4) (i * 4) (omega arith), stored-word o v (j * 4) (i * 4 + 1) (omega arith), stored-word o v (j * 4) (i * 4 + 2) (omega arith), stored-word o v (j * 4) (i * 4 + 3) (omega arith))
+      rw (stored-word o v (j * rowWidth) (i * rowWidth) (omega arith), stored-word o v (j * rowWidth) (i * rowWidth + 1) (omega arith), stored-word o v (j * rowWidth) (i * rowWidth + 2) (omega arith), stored-word o v (j * rowWidth) (i * rowWidth + 3) (omega arith))
 
-  pub front-movable : Movable d o i → Movable d (stored o (j * 4) v) i
+  pub front-movable : Movable d o i → Movable d (stored o (j * rowWidth) v) i
   unfolding kindAt xAt
-  front-movable m = rw (stored-word o v (j * 4) (i * 4) (omega arith), stored-word o v (j * 4) (i * 4 + 1) (omega arith)) m
+  front-movable m = rw (stored-word o v (j * rowWidth) (i * rowWidth) (omega arith), stored-word o v (j * rowWidth) (i * rowWidth + 1) (omega arith)) m
 
 -- one row more
-pub move-more : (d : ℕ) (o o₁ o₂ : List ℕ) (i j k : ℕ) → i + k < j → o₁ ≡ stored o (j * 4) (moved d o i k) → o₂ ≡ stored o₁ ((j + k) * 4) (movedRow d o₁ (i + k)) → o₂ ≡ stored o (j * 4) (moved d o i (k + 1))
+pub move-more : (d : ℕ) (o o₁ o₂ : List ℕ) (i j k : ℕ) → i + k < j → o₁ ≡ stored o (j * rowWidth) (moved d o i k) → o₂ ≡ stored o₁ ((j + k) * rowWidth) (movedRow d o₁ (i + k)) → o₂ ≡ stored o (j * rowWidth) (moved d o i (k + 1))
 move-more d o o₁ o₂ i j k h e f =
-    stored-then o o₁ o₂ (moved d o i k) (movedRow d o (i + k)) (j * 4) ((j + k) * 4) e (omega (arith, length-moved d o i k)) (f ∙ (rw e (rw (front-moved d o (moved d o i k) (i + k) j h))))
+    stored-then o o₁ o₂ (moved d o i k) (movedRow d o (i + k)) (j * rowWidth) ((j + k) * rowWidth) e (omega (arith, length-moved d o i k)) (f ∙ (rw e (rw (front-moved d o (moved d o i k) (i + k) j h))))
     ∙ rw (moved-more d o i k)
 
 -- every literal of a packed tree lies in its text

@@ -8,6 +8,7 @@ use native.Mathlib.Omega.{arith}
 use borrow.Author.Tests.{ltb-true, ltb-false}
 use lib.Dec.{ltb}
 use lib.ListN.{length}
+use Rattle.grammar.specs.Numbers.{rowWidth}
 use Rattle.grammar.specs.Tree.{Head, Un, PosPred, NegPred, Opt, Rep, RepOnce, Push, RestoreOnErr, RepExact, RepMin, RepMax, RepMinMax, E, un, unHead, size}
 use Rattle.grammar.specs.Rows.{flat}
 use Rattle.grammar.specs.Text.{textOf, packed}
@@ -18,7 +19,7 @@ use Rattle.rows.proofs.Cells.{un-same}
 use Rattle.writing.specs.declared.Place.{Place}
 use Rattle.writing.specs.declared.Wrote.{Wrote}
 use Rattle.writing.specs.declared.Wrote.the-variants.{Done, Full}
-use Rattle.writing.specs.Writes.{RowAnswer, Fits, Written, Answer}
+use Rattle.writing.specs.Writes.{RowAnswer, Fits, Written, Answer, stored}
 use Rattle.writing.proofs.Trees.{un-tree, length-packed, written-out, written-lits}
 use Rattle.unroller.specs.declared.Items.{Items}
 use Rattle.unroller.specs.Items.{itemsOf, itemsFor, countOf, IsRepeat}
@@ -112,13 +113,13 @@ answer-over {q} {p} {e} {o} {o₁} {t} {t₁} w f l (Done z) o₂ t₂ v =
     let lo = written-out w in
     let lt = written-lits w in
     let x = p .text in
-    let fr : p .rows + size f ≤ length o / 4 = omega (arith, v .fits .rows, lo) in
+    let fr : p .rows + size f ≤ length o / rowWidth = omega (arith, v .fits .rows, lo) in
     let ft : p .text + length (textOf f) ≤ length t = omega (arith, v .fits .text, lt) in
     record {
       fits = record { rows = fr; text = ft };
       rows = v .rows;
       text = v .text;
-      words = v .words ∙ rw (w .words) (stored-over o (flat (packed x e)) (flat (packed x f)) (p .rows * 4) (omega (arith, length-packed x e, length-packed x f, l .rows)) (omega (arith, length-packed x f)));
+      words = v .words ∙ rw (w .words) (stored-over o (flat (packed x e)) (flat (packed x f)) (p .rows * rowWidth) (omega (arith, length-packed x e, length-packed x f, l .rows)) (omega (arith, length-packed x f)));
       bytes = v .bytes ∙ rw (w .bytes) (stored-over t (textOf e) (textOf f) x (l .text) ft);
     }
 answer-over {q} {p} {e} {o} {o₁} {t} {t₁} w f l Full o₂ t₂ v = λ g. v (record { rows = omega (arith, g .rows, written-out w); text = omega (arith, g .text, written-lits w) })

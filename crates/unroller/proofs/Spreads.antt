@@ -5,6 +5,7 @@ use Prim.Native.Nat.{ℕ, _+_, _-_, _*_, _/_, _^_, _≤_, _<_}
 use native.Mathlib.Nat.{add-mul}
 use native.Mathlib.Omega.{arith}
 use lib.ListN.{length, take, replicate, length-append, length-replicate}
+use Rattle.grammar.specs.Numbers.{rowWidth}
 use Rattle.grammar.specs.Tree.{Opt, Rep, Bin, Seq, binKind, Expr, E, un, size}
 use Rattle.grammar.specs.Rows.{Span, flat}
 use Rattle.grammar.specs.Text.{textOf, packed}
@@ -142,7 +143,7 @@ module _ {p q : Place} {e : E} {o t : List ℕ} (n : Items) (s : Source p q e o 
   same-bytes = omega (arith, s .text)
 
   abbrev Test : Type 0
-  Test = Holds (length o / 4 - p .rows) (length t - p .text) (q .rows - p .rows) (q .text - p .text) n
+  Test = Holds (length o / rowWidth - p .rows) (length t - p .text) (q .rows - p .rows) (q .text - p .text) n
 
   pub fits-hold : Fits p (nest (itemsOf n e)) o t → Test
   fits-hold f = rw (same-size, same-bytes) (record {
@@ -151,7 +152,7 @@ module _ {p q : Place} {e : E} {o t : List ℕ} (n : Items) (s : Source p q e o 
   })
 
   pub holds-fit : Test → Fits p (nest (itemsOf n e)) o t
-  holds-fit g = let k : Holds (length o / 4 - p .rows) (length t - p .text) (size e) (length (textOf e)) n = rw (same-size, same-bytes) at g in record {
+  holds-fit g = let k : Holds (length o / rowWidth - p .rows) (length t - p .text) (size e) (length (textOf e)) n = rw (same-size, same-bytes) at g in record {
     rows = omega (arith, k .words, nest-weigh (itemsOf n e) some, items-weigh n e, source-rows s, s .rows);
     text = omega (arith, k .bytes, nest-weighs (itemsOf n e) some, items-bytes n e, s .text, s .within);
   }
@@ -194,21 +195,21 @@ module _ {s p : Place} (es : List E) {o o₁ t t₁ : List ℕ} (l : Laid s p es
   abbrev r : Expr Span
   r = packed (p .text + length (texts (v .init))) (v .last)
 
-  laid-words : o₁ ≡ stored o (p .rows * 4) (flats xs ++ flat r)
+  laid-words : o₁ ≡ stored o (p .rows * rowWidth) (flats xs ++ flat r)
   laid-words =
       l .words
-      ∙ ap (λ (x : List E). stored o (p .rows * 4) (flats (packs (p .text) x))) (v .is)
+      ∙ ap (λ (x : List E). stored o (p .rows * rowWidth) (flats (packs (p .text) x))) (v .is)
       ∙ rw (packs-append (p .text) (v .init) (v .last ∷ []), flats-append xs (r ∷ []), append-nil (flat r))
 
   laid-rows : s .rows ≡ p .rows + (sizes xs + size r)
   laid-rows =
       omega (arith, l .rows, ap sizes (v .is), sizes-append (v .init) (v .last ∷ []), sizes-packs (p .text) (v .init), size-packed (p .text + length (texts (v .init))) (v .last))
 
-  laid-room : s .rows ≤ length o / 4
+  laid-room : s .rows ≤ length o / rowWidth
   laid-room = omega (arith, l .rows, l .fits .rows)
 
   abbrev before : List ℕ
-  before = take (p .rows * 4) o
+  before = take (p .rows * rowWidth) o
 
   forest : Forest o₁ (s .rows) before xs r
   forest = forest-stored o o₁ (p .rows) (s .rows) xs r laid-words laid-rows laid-room

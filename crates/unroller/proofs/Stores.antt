@@ -5,6 +5,7 @@ use Prim.Native.Nat.{ℕ, zero, suc, _+_, _-_, _*_, _≤_, _<_}
 use native.Mathlib.Omega.{arith}
 use lib.ListN.{length, getD, take, drop, set, take-append-drop, length-append}
 use lib.Seq.{sets-eq, take-set-le, drop-set-lt, take-at, drop-at, take-take, getD-take, drop-drop, length-take-le}
+use Rattle.grammar.specs.Numbers.{rowWidth}
 use Rattle.grammar.specs.Tree.{Expr, size}
 use Rattle.grammar.specs.Rows.{Span, flat}
 use Rattle.grammar.specs.Text.{bytesAt}
@@ -64,19 +65,19 @@ stored-over o u v i h l =
     ∙ (rw (stored-front o u i i (omega arith), stored-rest o u i (i + length v) (omega arith)) (sym (stored-parts o v i l)))
 
 -- a tree whose rows are before the run stands as it did
-pub at-front : {o o′ : List ℕ} {i : ℕ} {r : Expr Span} → take (i * 4 + 4) o′ ≡ take (i * 4 + 4) o → At o i r → At o′ i r
+pub at-front : {o o′ : List ℕ} {i : ℕ} {r : Expr Span} → take (i * rowWidth + rowWidth) o′ ≡ take (i * rowWidth + rowWidth) o → At o i r → At o′ i r
 at-front {o} {o′} {i} {r} e a = record {
   before = a .before;
-  after = drop (i * 4 + 4) o′;
+  after = drop (i * rowWidth + rowWidth) o′;
   whole =
-      let l : length (a .before ++ flat r) ≡ i * 4 + 4 = simp length-append (omega (arith, length-flat r, a .place)) in
-      let f : take (i * 4 + 4) o ≡ a .before ++ flat r = ap (take (i * 4 + 4)) (a .whole ∙ sym (append-assoc (a .before) (flat r) (a .after))) ∙ take-at (a .before ++ flat r) (a .after) (i * 4 + 4) l in
-      sym (take-append-drop (i * 4 + 4) o′) ∙ rw (e, f) (append-assoc (a .before) (flat r) (drop (i * 4 + 4) o′));
+      let l : length (a .before ++ flat r) ≡ i * rowWidth + rowWidth = simp length-append (omega (arith, length-flat r, a .place)) in
+      let f : take (i * rowWidth + rowWidth) o ≡ a .before ++ flat r = ap (take (i * rowWidth + rowWidth)) (a .whole ∙ sym (append-assoc (a .before) (flat r) (a .after))) ∙ take-at (a .before ++ flat r) (a .after) (i * rowWidth + rowWidth) l in
+      sym (take-append-drop (i * rowWidth + rowWidth) o′) ∙ rw (e, f) (append-assoc (a .before) (flat r) (drop (i * rowWidth + rowWidth) o′));
   place = a .place;
 }
 
 -- the rows of a tree that stands
-pub at-run : {o : List ℕ} {i : ℕ} (j : ℕ) {n : ℕ} {r : Expr Span} → At o i r → n ≡ size r * 4 → j + n ≡ i * 4 + 4 → bytesAt o (j, n) ≡ flat r
+pub at-run : {o : List ℕ} {i : ℕ} (j : ℕ) {n : ℕ} {r : Expr Span} → At o i r → n ≡ size r * rowWidth → j + n ≡ i * rowWidth + rowWidth → bytesAt o (j, n) ≡ flat r
 at-run {o} {i} j {n} {r} a e h =
     ap (λ (w : List ℕ). bytesAt w (j, n)) (a .whole)
     ∙ ap (take n) (drop-at (a .before) (flat r ++ a .after) j (omega (arith, a .place)))

@@ -5,6 +5,7 @@ use mathlib.Core.List.{List}
 use Prim.Native.Nat.{ℕ, _+_, _-_, _/_, _≤_}
 use native.Mathlib.Omega.{arith}
 use lib.ListN.{length}
+use Rattle.grammar.specs.Numbers.{rowWidth}
 use Rattle.grammar.specs.Basic.{Bytes}
 use Rattle.grammar.specs.Tree.{Expr, E, bin, size, anyNode}
 use Rattle.grammar.specs.Rows.{Span}
@@ -86,7 +87,7 @@ module _ (t w : List ℕ) {i k x y n : ℕ} {r : Expr Span} (v : TwoView w i k x
       two-full₂ d f = full-not q second o₁ o₂ b₁ b₂ d (c₂ (v .right) (v .atRight)) (fits-right (done₁ d₁) (rw two-is at f))
 
       -- the size of the node fits
-      pub two-size : {s : Place} → h₂ ≡ Done s → (s .rows - p .rows + 1 ≡ size first + size second + 1) × (p .rows ≤ s .rows) × (s .rows ≤ length o / 4)
+      pub two-size : {s : Place} → h₂ ≡ Done s → (s .rows - p .rows + 1 ≡ size first + size second + 1) × (p .rows ≤ s .rows) × (s .rows ≤ length o / rowWidth)
       two-size d =
           let a = done₁ d₁ in
           let e = done₂ d in

@@ -4,6 +4,7 @@ use mathlib.Core.Bool.{false}
 use mathlib.Core.List.{List, [], _++_}
 use Prim.Native.Nat.{ℕ, zero, suc, _+_, _-_, _*_, _/_, _^_, _≤_, _<_}
 use lib.ListN.{length}
+use Rattle.grammar.specs.Numbers.{rowWidth}
 use Rattle.grammar.specs.Tree.{Head, Un, E, unHead, size}
 use Rattle.grammar.specs.Rows.{row}
 use Rattle.grammar.specs.Text.{bytesAt, textOf, packed}
@@ -99,7 +100,7 @@ behindOf Many = 1
 
 pub record Finishable (p q : Place) (i : Item) (o : List ℕ) : Type 0 where
   pub least : p .rows ≤ q .rows
-  pub most : q .rows + behindOf i ≤ length o / 4
+  pub most : q .rows + behindOf i ≤ length o / rowWidth
   pub words : length o < 2 ^ 32
 
 -- the packed trees es stand one after another from p to q, and nothing else of the areas has changed

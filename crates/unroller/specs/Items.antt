@@ -5,6 +5,7 @@ use mathlib.Core.List.{List, _++_}
 use Prim.Native.Nat.{ℕ, _+_, _-_, _*_, _≤_, _<_, min}
 use lib.ListN.{replicate}
 use lib.Dec.{eqb}
+use Rattle.grammar.specs.Numbers.{kRepOnce, kRepExact, kRepMin, kRepMax}
 use Rattle.grammar.specs.Tree.{Opt, Rep, Expr, E, un, anyNode}
 use Rattle.grammar.specs.Rows.{Span}
 use Rattle.grammar.specs.Refusals.{zeroCount}
@@ -47,10 +48,10 @@ pickItems false a b = b
 -- the items of a repeat, by its row: RepOnce, RepExact, RepMin, RepMax, RepMinMax
 unfoldable pub itemsFor : ℕ → ℕ → ℕ → Items
 itemsFor k x y =
-    pickItems (eqb k 12) (items 1 0 1)
-    (pickItems (eqb k 13) (items x 0 0)
-    (pickItems (eqb k 14) (items x 0 1)
-    (pickItems (eqb k 15) (items 0 x 0) (items (min x y) (y - x) 0))))
+    pickItems (eqb k kRepOnce) (items 1 0 1)
+    (pickItems (eqb k kRepExact) (items x 0 0)
+    (pickItems (eqb k kRepMin) (items x 0 1)
+    (pickItems (eqb k kRepMax) (items 0 x 0) (items (min x y) (y - x) 0))))
 
 -- so many rows and bytes hold the items of a tree with s rows and b bytes: each item has a Seq row, but for the last
 pub record Holds (rows text s b : ℕ) (n : Items) : Type 0 where

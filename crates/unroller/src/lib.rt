@@ -1,22 +1,33 @@
 // Unroll: a counted repeat becomes its items, nested to the right.
 ghost use mathlib.Core.Path.{_≡_};
-ghost use mathlib.Core.Bool.{false};
 ghost use mathlib.Core.List.{List, _∷_};
 ghost use Prim.Native.Nat.{ℕ, _+_, _-_, _*_, _/_, _^_, _≤_, _<_};
 ghost use lib.ListN.{length, replicate};
-ghost use Rattle.grammar.specs.Basic.{Bytes};
+ghost use Rattle.grammar.specs.Numbers.{rowWidth};
 ghost use Rattle.grammar.specs.Tree.{Un, unHead, Expr, E};
 ghost use Rattle.grammar.specs.Rows.{Span};
 ghost use Rattle.grammar.specs.Steps.{nest, unrolled, unroll};
 ghost use Rattle.grammar.specs.Text.{bytesAt, resolve};
 ghost use Rattle.writing.specs.Writes.{stored, Room, RowPut, Written, Answer};
-ghost use Rattle.rows.specs.Rows.{Tells, Inside, At, Stands, shapeOf, kindAt};
+ghost use Rattle.rows.specs.Rows.{Tells, Inside, At, shapeOf, kindAt};
 ghost use Rattle.rows.specs.declared.Shape.the-variants.{One};
 ghost use Rattle.chains.specs.Runs.{ups};
 ghost use Rattle.unroller.specs.declared.Item.the-variants.{Once};
 ghost use Rattle.unroller.specs.Items.{Counted, itemOf, itemsOf, countOf, items, itemsFor, IsRepeat, Holds};
 ghost use Rattle.unroller.specs.Climbs.{RunOver, Standing, ClimbedAnswer};
 ghost use Rattle.unroller.specs.Copies.{movedRow, moved, Movable, Source, Copyable, Repeatable, Finishable, Layable, Spreadable, Headed, Laid};
+use grammar::OPT;
+use grammar::REP;
+use grammar::REP_EXACT;
+use grammar::REP_MAX;
+use grammar::REP_MIN;
+use grammar::REP_ONCE;
+use grammar::ROW_WIDTH;
+use grammar::SEQ;
+use grammar::SIZE;
+use grammar::SKIP;
+use grammar::X;
+use grammar::Y;
 use rows::Lookup;
 use rows::Shape;
 use writing::Place;
@@ -53,17 +64,17 @@ fn counts(plain: usize, opts: usize, reps: usize) -> Items
 fn items_for(kind: u32, x: u32, y: u32) -> Items
     ensures { λ r. ⌜ r ≡ itemsFor kind x y ⌝ }
 {
-    if kind == 12 {
+    if kind == REP_ONCE {
         return counts(1, 0, 1);
     }
     let n = x as usize;
-    if kind == 13 {
+    if kind == REP_EXACT {
         return counts(n, 0, 0);
     }
-    if kind == 14 {
+    if kind == REP_MIN {
         return counts(n, 0, 1);
     }
-    if kind == 15 {
+    if kind == REP_MAX {
         return counts(0, n, 0);
     }
     let m = y as usize;
@@ -131,9 +142,9 @@ fn copy_on(lits: &mut [u8], x: usize, n: usize, at: usize)
 
 // Copies row i to row j; an offset moves by d.
 fn move_row(out: &mut [u32], i: usize, j: usize, d: u32)
-    requires { ⌜ (i < length (now out) / 4) × (j < length (now out) / 4) ⌝ }
+    requires { ⌜ (i < length (now out) / rowWidth) × (j < length (now out) / rowWidth) ⌝ }
     requires { ⌜ Movable d (now out) i ⌝ }
-    ensures { λ _. ⌜ now (out .exit) ≡ stored (now (out .entry)) (j * 4) (movedRow d (now (out .entry)) i) ⌝ }
+    ensures { λ _. ⌜ now (out .exit) ≡ stored (now (out .entry)) (j * rowWidth) (movedRow d (now (out .entry)) i) ⌝ }
 {
     let Lookup::Row { kind, x, y, size } = rows::row_at(out, i) else {
         return;
@@ -147,9 +158,9 @@ fn move_row(out: &mut [u32], i: usize, j: usize, d: u32)
 
 // Copies n rows from row i to row j, further on; offsets move by d.
 fn move_rows(out: &mut [u32], i: usize, n: usize, j: usize, d: u32)
-    requires { ⌜ (i + n ≤ j) × (j + n ≤ length (now out) / 4) ⌝ }
+    requires { ⌜ (i + n ≤ j) × (j + n ≤ length (now out) / rowWidth) ⌝ }
     requires { ⌜ ((k : ℕ) → k < n → Movable d (now out) (i + k)) ⌝ }
-    ensures { λ _. ⌜ now (out .exit) ≡ stored (now (out .entry)) (j * 4) (moved d (now (out .entry)) i n) ⌝ }
+    ensures { λ _. ⌜ now (out .exit) ≡ stored (now (out .entry)) (j * rowWidth) (moved d (now (out .entry)) i n) ⌝ }
 {
     let mut k = 0;
     while k < n {
@@ -179,7 +190,7 @@ fn again(out: &mut [u32], lits: &mut [u8], p: Place, q: Place, at: Place) -> Pla
 
 // Writes the row of a kind over the tree that stands from p to q.
 fn over(out: &mut [u32], p: Place, q: Place, kind: u32) -> Place
-    requires { ⌜ (p .rows ≤ q .rows) × (q .rows < length (now out) / 4) × (length (now out) < 2 ^ 32) ⌝ }
+    requires { ⌜ (p .rows ≤ q .rows) × (q .rows < length (now out) / rowWidth) × (length (now out) < 2 ^ 32) ⌝ }
     ensures { λ a. ⌜ RowPut a q (kind, 0, 0) (q .rows - p .rows + 1) (now (out .entry)) (now (out .exit)) ⌝ }
 {
     let at = q.rows;
@@ -198,8 +209,8 @@ fn finish(out: &mut [u32], p: Place, q: Place, item: Item) -> Place
 {
     match item {
         Item::Once => q,
-        Item::Maybe => over(out, p, q, 10),
-        Item::Many => over(out, p, q, 11),
+        Item::Maybe => over(out, p, q, OPT),
+        Item::Many => over(out, p, q, REP),
     }
 }
 
@@ -256,22 +267,28 @@ fn spread(out: &mut [u32], lits: &mut [u8], p: Place, q: Place, n: Items) -> Wro
     let i = p.rows;
     let x = p.text;
     // known before anything is copied
-    if !hold(out.len() / 4 - i, lits.len() - x, q.rows - i, q.text - x, n) {
+    if !hold(
+        out.len() / ROW_WIDTH - i,
+        lits.len() - x,
+        q.rows - i,
+        q.text - x,
+        n,
+    ) {
         return Wrote::Full;
     }
     let s = lay(out, lits, p, q, n);
     let others = n.plain + (n.opts + n.reps) - 1;
-    chains::close(out, s, 8, others)
+    chains::close(out, s, SEQ, others)
 }
 
 // Whether a kind is unrolled.
 fn is_repeat(kind: u32) -> bool
     ensures { λ r. ⌜ Tells r (IsRepeat kind) ⌝ }
 {
-    if kind < 12 {
+    if kind < REP_ONCE {
         return false;
     }
-    kind < 17
+    kind < SKIP
 }
 
 // Writes the node of kind, x and y over the tree that stands from p to q, unrolled.
@@ -285,30 +302,6 @@ fn node(out: &mut [u32], lits: &mut [u8], p: Place, q: Place, kind: u32, x: u32,
     }
     let size = q.rows - p.rows + 1;
     writing::put_row(out, q, kind, x, y, size as u32)
-}
-
-// Whether a row of the subtree of row `root` is unrolled.
-pub fn unrolls(rows: &[u32], root: usize) -> bool
-    requires { ⌜ Stands (now rows) root ⌝ }
-    ensures { λ b. ⌜ (b ≡ false → (t : Bytes) (r : Expr Span) → At (now (rows .entry)) root r → unroll (resolve t r) ≡ resolve t r) ⌝ }
-{
-    let Lookup::Row {
-        kind: _,
-        x: _,
-        y: _,
-        size,
-    } = rows::row_at(rows, root)
-    else {
-        return true;
-    };
-    let mut i = root + 1 - rows::wide(size);
-    while i <= root {
-        if is_repeat(rows[i * 4]) {
-            return true;
-        }
-        i += 1;
-    }
-    false
 }
 
 // Writes the rows after `base` up to `root`, which have one child each, over the tree that stands from p to q, unrolled.
@@ -330,8 +323,8 @@ fn climb(
     let mut i = base;
     while i < root {
         i += 1;
-        let at = i * 4;
-        let Wrote::Done(z) = node(out, lits, p, s, rows[at], rows[at + 1], rows[at + 2]) else {
+        let at = i * ROW_WIDTH;
+        let Wrote::Done(z) = node(out, lits, p, s, rows[at], rows[at + X], rows[at + Y]) else {
             return Wrote::Full;
         };
         s = z;
@@ -354,10 +347,10 @@ fn bottom(
     requires { ⌜ (shapeOf (kindAt (now rows) root) ≡ One → ⊥) ⌝ }
     ensures { λ a. ⌜ ((r : Expr Span) → At (now (rows .entry)) root r → Answer a p (unroll (resolve (now (text .entry)) r)) (now (out .entry)) (now (out .exit)) (now (lits .entry)) (now (lits .exit))) ⌝ }
 {
-    let at = root * 4;
+    let at = root * ROW_WIDTH;
     let kind = rows[at];
-    let x = rows[at + 1];
-    let y = rows[at + 2];
+    let x = rows[at + X];
+    let y = rows[at + Y];
     match rows::shape_of(kind) {
         Shape::Lit => writing::put_lit(text, rows::wide(x), rows::wide(y), kind, out, lits, p),
         Shape::Num => writing::put_row(out, p, kind, x, y, 1),
@@ -365,11 +358,11 @@ fn bottom(
         Shape::One => Wrote::Full,
         Shape::Two => {
             let right = root - 1;
-            let left = right - rows::wide(rows[right * 4 + 3]);
-            let Wrote::Done(q) = walk(rows, text, left, out, lits, p) else {
+            let left = right - rows::wide(rows[right * ROW_WIDTH + SIZE]);
+            let Wrote::Done(q) = unroll(rows, text, left, out, lits, p) else {
                 return Wrote::Full;
             };
-            let Wrote::Done(s) = walk(rows, text, right, out, lits, q) else {
+            let Wrote::Done(s) = unroll(rows, text, right, out, lits, q) else {
                 return Wrote::Full;
             };
             let size = s.rows - p.rows + 1;
@@ -379,21 +372,6 @@ fn bottom(
 }
 
 // Writes the subtree of row `root`, unrolled node by node, at p.
-fn walk(rows: &[u32], text: &[u8], root: usize, out: &mut [u32], lits: &mut [u8], p: Place) -> Wrote
-    requires { ⌜ Inside (now rows) (length (now text)) ⌝ }
-    requires { ⌜ Counted (now rows) root ⌝ }
-    requires { ⌜ Room p (now out) (now lits) ⌝ }
-    ensures { λ a. ⌜ ((r : Expr Span) → At (now (rows .entry)) root r → Answer a p (unroll (resolve (now (text .entry)) r)) (now (out .entry)) (now (out .exit)) (now (lits .entry)) (now (lits .exit))) ⌝ }
-{
-    // no call for each row of a run: a host's stack is short
-    let base = chains::below(rows, root);
-    let Wrote::Done(q) = bottom(rows, text, base, out, lits, p) else {
-        return Wrote::Full;
-    };
-    climb(rows, base, root, out, lits, p, q)
-}
-
-// Writes the subtree of row `root`, unrolled, at p: most have nothing to unroll, and a copy is cheaper than a walk.
 pub fn unroll(
     rows: &[u32],
     text: &[u8],
@@ -407,8 +385,10 @@ pub fn unroll(
     requires { ⌜ Room p (now out) (now lits) ⌝ }
     ensures { λ a. ⌜ ((r : Expr Span) → At (now (rows .entry)) root r → Answer a p (unroll (resolve (now (text .entry)) r)) (now (out .entry)) (now (out .exit)) (now (lits .entry)) (now (lits .exit))) ⌝ }
 {
-    if !unrolls(rows, root) {
-        return writing::copy(rows, text, root, out, lits, p);
-    }
-    walk(rows, text, root, out, lits, p)
+    // no call for each row of a run: a host's stack is short
+    let base = chains::below(rows, root);
+    let Wrote::Done(q) = bottom(rows, text, base, out, lits, p) else {
+        return Wrote::Full;
+    };
+    climb(rows, base, root, out, lits, p, q)
 }

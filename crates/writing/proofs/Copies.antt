@@ -5,6 +5,7 @@ use Prim.Native.Nat.{ℕ, zero, suc, _+_, _-_, _*_}
 use native.Mathlib.Nat.{add-zero, zero-add, suc-add}
 use native.Mathlib.Omega.{arith}
 use lib.ListN.{length, length-append, length-map}
+use Rattle.grammar.specs.Numbers.{rowWidth}
 use Rattle.grammar.specs.Basic.{Bytes}
 use Rattle.grammar.specs.Tree.{Str, Expr, lit, fixed, skip, un, bin, size}
 use Rattle.grammar.specs.Rows.{Span, row, strRows, flat}
@@ -88,7 +89,7 @@ module _ (t : Bytes) (w : List ℕ) where
   words-end : (o i j n : ℕ) (u v : List ℕ) → j ≡ i + n → runWords o t w i n ≡ u → ((x : ℕ) → rowWords x t w j ≡ v) → runWords o t w i (n + 1) ≡ u ++ v
   words-end o i j n u v e p q = words-more o i n ∙ rw (← e, p, q (o + length (runText t w i n)))
 
-  pub length-words : (o i n : ℕ) → length (runWords o t w i n) ≡ n * 4
+  pub length-words : (o i n : ℕ) → length (runWords o t w i n) ≡ n * rowWidth
   unfolding rowWords
   length-words o i zero = refl
   length-words o i (suc n) = simp length-append (omega (arith, go (shapeOf (kindAt w i)) (rowText t w i), length-words (o + length (rowText t w i)) (i + 1) n))

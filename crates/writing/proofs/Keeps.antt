@@ -6,6 +6,7 @@ use native.Mathlib.Nat.{add-zero}
 use native.Mathlib.Omega.{arith}
 use lib.ListN.{length, take, drop, length-append, length-take, take-append-drop}
 use lib.Seq.{length-take-le, take-append-seam, drop-append-seam}
+use Rattle.grammar.specs.Numbers.{rowWidth}
 use Rattle.grammar.specs.Basic.{Bytes}
 use Rattle.grammar.specs.Tree.{Head, Un, Bin, Expr, E, lit, fixed, skip, un, bin, unHead, binKind, size}
 use Rattle.grammar.specs.Rows.{Span, row, flat}
@@ -37,7 +38,7 @@ pub written-kept : {q p : Place} {e : E} {o o′ t t′ : List ℕ} → Written 
 written-kept {q} {p} {e} {o} {o′} {t} {t′} w = record {
   rows = w .rows;
   text = w .text;
-  words = rw (w .words) (take-stored o _ (p .rows * 4) (q .rows * 4) (omega (arith, w .rows, length-packed (p .text) e)) (omega (arith, w .rows, w .fits .rows)));
+  words = rw (w .words) (take-stored o _ (p .rows * rowWidth) (q .rows * rowWidth) (omega (arith, w .rows, length-packed (p .text) e)) (omega (arith, w .rows, w .fits .rows)));
   bytes = rw (w .bytes) (take-stored t _ (p .text) (q .text) (w .text) (omega (arith, w .text, w .fits .text)));
 }
 
@@ -63,7 +64,7 @@ module _ (s : Bytes) {w : List ℕ} {i k x y n : ℕ} {r : Expr Span} {p : Place
 
 -- where a tree e′ that is no larger than e stands, there is room for the root row over e, and for what comes beside e
 module _ {q p : Place} {e′ : E} {o o₁ t t₁ : List ℕ} (w : Kept q p e′ o o₁ t t₁) (e : E) (s : size e′ ≤ size e) (lo : length o₁ ≡ length o) where
-  pub row-room : {u : Un} → Fits p (un u e) o t → q .rows < length o₁ / 4
+  pub row-room : {u : Un} → Fits p (un u e) o t → q .rows < length o₁ / rowWidth
   row-room f = omega (arith, w .rows, f .rows)
 
   pub right-fits : {b : Bin} {r : E} → length (textOf e′) ≤ length (textOf e) → length t₁ ≡ length t → Fits p (bin b e r) o t → Fits q r o₁ t₁
@@ -88,7 +89,7 @@ module _ {q p : Place} {e : E} {o o₁ t t₁ : List ℕ} (w : Kept q p e o o₁
   kept-un {a} u g n {o₂} d h r = record {
     rows = omega (arith, w .rows, r .rows);
     text = r .text ∙ w .text;
-    words = rw (r .words) (take-stored o₁ _ (q .rows * 4) (a .rows * 4) (omega (arith, r .rows)) (omega (arith, r .rows, r .room)) ∙ rw (w .words, d, h, size-packed (p .text) e) (simp append-assoc));
+    words = rw (r .words) (take-stored o₁ _ (q .rows * rowWidth) (a .rows * rowWidth) (omega (arith, r .rows)) (omega (arith, r .rows, r .room)) ∙ rw (w .words, d, h, size-packed (p .text) e) (simp append-assoc));
     bytes = rw (r .text) (w .bytes);
   }
 
@@ -98,7 +99,7 @@ module _ {q p : Place} {e : E} {o o₁ t t₁ : List ℕ} (w : Kept q p e o o₁
       record {
         rows = omega (arith, w .rows, v .rows, r .rows);
         text = r .text ∙ omega (arith, w .text, v .text, l);
-        words = rw (r .words) (take-stored o₂ _ (s .rows * 4) (a .rows * 4) (omega (arith, r .rows)) (omega (arith, r .rows, r .room)) ∙ rw (v .words, w .words, d, h, w .text, size-packed (p .text) e, size-packed (p .text + length (textOf e)) f) (simp append-assoc));
+        words = rw (r .words) (take-stored o₂ _ (s .rows * rowWidth) (a .rows * rowWidth) (omega (arith, r .rows)) (omega (arith, r .rows, r .room)) ∙ rw (v .words, w .words, d, h, w .text, size-packed (p .text) e, size-packed (p .text + length (textOf e)) f) (simp append-assoc));
         bytes = rw (r .text) (v .bytes ∙ rw (w .bytes) (simp append-assoc));
       }
 
@@ -139,18 +140,18 @@ within-packed n o (bin b l r) h =
     (within-packed n o l (omega arith), within-packed n (o + length (textOf l)) r (omega arith))
 
 -- a tree at the end of what was written stands in the area, with its root at the last row
-pub at-end : (o x : List ℕ) (n i : ℕ) (r : Expr Span) → take n o ≡ x ++ flat r → length x + size r * 4 ≡ i * 4 + 4 → At o i r
+pub at-end : (o x : List ℕ) (n i : ℕ) (r : Expr Span) → take n o ≡ x ++ flat r → length x + size r * rowWidth ≡ i * rowWidth + rowWidth → At o i r
 at-end o x n i r e h = record { before = x; after = drop n o; whole = sym (take-append-drop n o) ∙ rw e (append-assoc x (flat r) (drop n o)); place = h }
 
 module _ {q p : Place} {e : E} {o o′ t t′ : List ℕ} (w : Kept q p e o o′ t t′) where
-  pub kept-at : p .rows ≤ length o / 4 → At o′ (q .rows - 1) (packed (p .text) e)
+  pub kept-at : p .rows ≤ length o / rowWidth → At o′ (q .rows - 1) (packed (p .text) e)
   kept-at h =
-      at-end o′ (take (p .rows * 4) o) (q .rows * 4) (q .rows - 1) (packed (p .text) e) (w .words)
-      (omega (arith, w .rows, size-packed (p .text) e, size-pos e, length-take-le (p .rows * 4) o (omega arith)))
+      at-end o′ (take (p .rows * rowWidth) o) (q .rows * rowWidth) (q .rows - 1) (packed (p .text) e) (w .words)
+      (omega (arith, w .rows, size-packed (p .text) e, size-pos e, length-take-le (p .rows * rowWidth) o (omega arith)))
 
   -- what was there before it is still there
-  pub kept-rows : p .rows ≤ length o / 4 → take (p .rows * 4) o′ ≡ take (p .rows * 4) o
-  kept-rows h = take-front o o′ _ (p .rows * 4) (q .rows * 4) (omega (arith, w .rows)) (omega arith) (w .words)
+  pub kept-rows : p .rows ≤ length o / rowWidth → take (p .rows * rowWidth) o′ ≡ take (p .rows * rowWidth) o
+  kept-rows h = take-front o o′ _ (p .rows * rowWidth) (q .rows * rowWidth) (omega (arith, w .rows)) (omega arith) (w .words)
 
   pub kept-text : p .text ≤ length t → take (p .text) t′ ≡ take (p .text) t
   kept-text h = take-front t t′ _ (p .text) (q .text) (omega (arith, w .text)) h (w .bytes)
@@ -167,7 +168,7 @@ module _ {q p : Place} {e : E} {o o′ t t′ : List ℕ} (w : Kept q p e o o′
       let n : length (take (q .text) t′) ≡ p .text + length (textOf e) = ap length (w .bytes) ∙ simp length-append (omega (arith, length-take-le (p .text) t h)) in
       omega (arith, w .text, length-take (q .text) t′)
 
-  pub kept-stands : p .rows ≤ length o / 4 → p .text ≤ length t → StandsIn o′ (q .rows - 1) (length t′)
+  pub kept-stands : p .rows ≤ length o / rowWidth → p .text ≤ length t → StandsIn o′ (q .rows - 1) (length t′)
   kept-stands h k = record {
     tree = packed (p .text) e;
     at = kept-at h;

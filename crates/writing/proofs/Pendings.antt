@@ -7,6 +7,7 @@ use native.Mathlib.Numerals.{add-one}
 use native.Mathlib.Omega.{arith}
 use lib.ListN.{length, getD, take, drop, set, length-append}
 use lib.Seq.{take-add, drop-drop, set-set, set-comm}
+use Rattle.grammar.specs.Numbers.{rowWidth}
 use Rattle.grammar.specs.Basic.{Bytes}
 use Rattle.grammar.specs.Rows.{row}
 use Rattle.grammar.specs.Text.{bytesAt}
@@ -104,7 +105,7 @@ offset-set l i k x y n v =
     ∙ ap (λ (z : List ℕ). set (set z (suc (suc i)) y) (suc (suc (suc i))) n) (set-set c (suc i) x v)
 
 -- the row that begins at word `at`
-pub word-found : (w : List ℕ) (at i : ℕ) → at ≡ i * 4 → Begins at w → Found w i (getD w at 0) (getD w (at + 1) 0) (getD w (at + 2) 0) (getD w (at + 3) 0)
+pub word-found : (w : List ℕ) (at i : ℕ) → at ≡ i * rowWidth → Begins at w → Found w i (getD w at 0) (getD w (at + 1) 0) (getD w (at + 2) 0) (getD w (at + 3) 0)
 unfolding kindAt xAt yAt sizeAt
 word-found w at i e b =
     record {
@@ -116,7 +117,7 @@ word-found w at i e b =
     }
 
 -- one row, written from word `to` on
-module _ (s : Bytes) {w : List ℕ} {i k x y n : ℕ} (f : Found w i k x y n) {o : ℕ} {bs t t′ : List ℕ} (to j : ℕ) (m : to ≡ j * 4) (u : List ℕ) where
+module _ (s : Bytes) {w : List ℕ} {i k x y n : ℕ} (f : Found w i k x y n) {o : ℕ} {bs t t′ : List ℕ} (to j : ℕ) (m : to ≡ j * rowWidth) (u : List ℕ) where
   pub lit-moved : {g h : Run} (u₁ u′ t″ : List ℕ) → shapeOf k ≡ Lit → x + y ≤ length s → Pending g o s bs t t′ → Pending h o s (bs ++ bytesAt s (x, y)) t t″
       → u₁ ≡ stored u to (row (k, x, y) n) → u′ ≡ set u₁ (to + 1) (g .at + g .size) → Moved h o s w i j bs u u′ t t″
   lit-moved {g} {h} u₁ u′ t″ c l p q d e = record {
@@ -132,16 +133,16 @@ module _ (s : Bytes) {w : List ℕ} {i k x y n : ℕ} (f : Found w i k x y n) {o
 
 -- k rows of a run by now
 pub record Moving (g : Run) (o : ℕ) (s w : List ℕ) (i j k : ℕ) (u u′ t t′ : List ℕ) : Type 0 where
-  pub words : u′ ≡ stored u (j * 4) (runWords o s w i k)
+  pub words : u′ ≡ stored u (j * rowWidth) (runWords o s w i k)
   pub pending : Pending g o s (runText s w i k) t t′
 
 module _ {g : Run} {o : ℕ} {s w : List ℕ} {i j k : ℕ} {u u′ t t′ : List ℕ} (m : Moving g o s w i j k u u′ t t′) where
   pub moving-length : length u′ ≡ length u
-  moving-length = ap length (m .words) ∙ length-stored u (j * 4) _
+  moving-length = ap length (m .words) ∙ length-stored u (j * rowWidth) _
 
   pub moving-more : {h : Run} (u″ t″ : List ℕ) → Moved h o s w (i + k) (j + k) (runText s w i k) u′ u″ t t″ → Moving h o s w i j (k + 1) u u″ t t″
   moving-more u″ t″ v = record {
-    words = stored-then u u′ u″ _ _ (j * 4) ((j + k) * 4) (m .words) (omega (arith, length-words s w o i k)) (v .words) ∙ ap (stored u (j * 4)) (sym (words-more s w o i k));
+    words = stored-then u u′ u″ _ _ (j * rowWidth) ((j + k) * rowWidth) (m .words) (omega (arith, length-words s w o i k)) (v .words) ∙ ap (stored u (j * rowWidth)) (sym (words-more s w o i k));
     pending = rw (text-more s w i k) (v .pending);
   }
 
@@ -151,7 +152,7 @@ module _ {g : Run} {o : ℕ} {s w : List ℕ} {i j k : ℕ} {u u′ t t′ : Lis
       let e : n ≡ k + 1 + (n - (k + 1)) = omega arith in
       h (omega (arith, f, ap (λ (z : ℕ). length (runText s w i z)) e, ap length (text-append s w i (k + 1) (n - (k + 1))), length-append (runText s w i (k + 1)) (runText s w (i + (k + 1)) (n - (k + 1))), ap length (text-more s w i k)))
 
-  pub moving-done : (p q : Place) (t″ : List ℕ) → p .rows ≡ j → p .text ≡ o → j + k ≤ length u / 4 → q .rows ≡ j + k → q .text ≡ g .at + g .size → t″ ≡ stored t′ (g .at) (bytesAt s (g .from, g .size)) → Put q p k (runWords (p .text) s w i k) (runText s w i k) u u′ t t″
+  pub moving-done : (p q : Place) (t″ : List ℕ) → p .rows ≡ j → p .text ≡ o → j + k ≤ length u / rowWidth → q .rows ≡ j + k → q .text ≡ g .at + g .size → t″ ≡ stored t′ (g .at) (bytesAt s (g .from, g .size)) → Put q p k (runWords (p .text) s w i k) (runText s w i k) u u′ t t″
   moving-done p q t″ er et l qr qt e = record {
     fits = record { rows = omega arith; text = omega (arith, pending-end (m .pending), m .pending .runs .room) };
     rows = qr ∙ ap (λ (z : ℕ). z + k) (sym er);
@@ -164,6 +165,6 @@ module _ {g : Run} {o : ℕ} {s w : List ℕ} {i j k : ℕ} {u u′ t t′ : Lis
 pub record MovingAt (g : Run) (o : ℕ) (s w : List ℕ) (i n j from to : ℕ) (u u′ t t′ : List ℕ) : Type 0 where
   pub count : ℕ
   pub most : count ≤ n
-  pub source : from ≡ (i + count) * 4
-  pub target : to ≡ (j + count) * 4
+  pub source : from ≡ (i + count) * rowWidth
+  pub target : to ≡ (j + count) * rowWidth
   pub moving : Moving g o s w i j count u u′ t t′

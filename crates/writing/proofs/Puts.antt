@@ -5,6 +5,7 @@ use Prim.Native.Nat.{ℕ, _+_, _*_, _/_, _≤_, _<_}
 use native.Mathlib.Nat.{add-zero}
 use native.Mathlib.Omega.{arith}
 use lib.ListN.{length, length-append}
+use Rattle.grammar.specs.Numbers.{rowWidth}
 use Rattle.grammar.specs.Tree.{Head}
 use Rattle.grammar.specs.Rows.{row}
 use Rattle.writing.specs.declared.Place.{Place}
@@ -23,15 +24,15 @@ put-full p n ws bs o o′ t t′ h w = subst (λ (z : Wrote). PutAnswer z p n ws
 pub row-done : {a : Wrote} {q : Place} (p : Place) (h : Head) (n : ℕ) (o o′ : List ℕ) → a ≡ Done q → RowAnswer a p h n o o′ → RowPut q p h n o o′
 row-done p h n o o′ d w = subst (λ (z : Wrote). RowAnswer z p h n o o′) d w
 
-pub row-full : {a : Wrote} (p : Place) (h : Head) (n : ℕ) (o o′ : List ℕ) → a ≡ Full → RowAnswer a p h n o o′ → p .rows < length o / 4 → ⊥
+pub row-full : {a : Wrote} (p : Place) (h : Head) (n : ℕ) (o o′ : List ℕ) → a ≡ Full → RowAnswer a p h n o o′ → p .rows < length o / rowWidth → ⊥
 row-full p h n o o′ d w = subst (λ (z : Wrote). RowAnswer z p h n o o′) d w
 
 -- a row that is set where the next one goes
-pub row-set : (q p : Place) (h : Head) (n : ℕ) (o o′ : List ℕ) → p .rows < length o / 4 → q .rows ≡ p .rows + 1 → q .text ≡ p .text → o′ ≡ stored o (p .rows * 4) (row h n) → RowPut q p h n o o′
+pub row-set : (q p : Place) (h : Head) (n : ℕ) (o o′ : List ℕ) → p .rows < length o / rowWidth → q .rows ≡ p .rows + 1 → q .text ≡ p .text → o′ ≡ stored o (p .rows * rowWidth) (row h n) → RowPut q p h n o o′
 row-set q p h n o o′ l r t w = record { room = l; rows = r; text = t; words = w }
 
 -- nothing, and a row
-pub put-none : (p : Place) (o t : List ℕ) → p .rows ≤ length o / 4 → p .text ≤ length t → Put p p 0 [] [] o o t t
+pub put-none : (p : Place) (o t : List ℕ) → p .rows ≤ length o / rowWidth → p .text ≤ length t → Put p p 0 [] [] o o t t
 put-none p o t h k = record {
   fits = record { rows = omega arith; text = omega arith };
   rows = sym (add-zero _);
@@ -78,7 +79,7 @@ module _ {q p : Place} {n : ℕ} {ws bs o o′ t t′ : List ℕ} (w : Put q p n
   }
 
 -- what is put after it
-module _ {q p : Place} {n : ℕ} {ws bs o o₁ t t₁ : List ℕ} (w : Put q p n ws bs o o₁ t t₁) (l : length ws ≡ n * 4) where
+module _ {q p : Place} {n : ℕ} {ws bs o o₁ t t₁ : List ℕ} (w : Put q p n ws bs o o₁ t t₁) (l : length ws ≡ n * rowWidth) where
   pub put-then : (a : Wrote) (m : ℕ) (us cs o₂ t₂ : List ℕ) → PutAnswer a q m us cs o₁ o₂ t₁ t₂ → PutAnswer a p (n + m) (ws ++ us) (bs ++ cs) o o₂ t t₂
   put-then (Done s) m us cs o₂ t₂ v =
       let b = length-append bs cs in
@@ -86,7 +87,7 @@ module _ {q p : Place} {n : ℕ} {ws bs o o₁ t t₁ : List ℕ} (w : Put q p n
         fits = record { rows = omega (arith, w .rows, v .fits .rows, put-out w); text = omega (arith, b, w .text, v .fits .text, put-lits w) };
         rows = omega (arith, w .rows, v .rows);
         text = omega (arith, b, w .text, v .text);
-        words = stored-then o o₁ o₂ ws us (p .rows * 4) (q .rows * 4) (w .words) (omega (arith, w .rows)) (v .words);
+        words = stored-then o o₁ o₂ ws us (p .rows * rowWidth) (q .rows * rowWidth) (w .words) (omega (arith, w .rows)) (v .words);
         bytes = stored-then t t₁ t₂ bs cs (p .text) (q .text) (w .bytes) (w .text) (v .bytes);
       }
   put-then Full m us cs o₂ t₂ v = λ f. v (record {

@@ -5,6 +5,7 @@ use Prim.Native.Nat.{ℕ, _+_, _*_, _/_, _≤_, _<_}
 use native.Mathlib.Nat.{add-zero}
 use native.Mathlib.Omega.{arith}
 use lib.ListN.{length, length-append}
+use Rattle.grammar.specs.Numbers.{rowWidth}
 use Rattle.grammar.specs.Basic.{Bytes}
 use Rattle.grammar.specs.Tree.{Head, Lit, Fixed, Un, Bin, E, lit, fixed, skip, un, bin, litKind, fixedHead, unHead, binKind, size}
 use Rattle.grammar.specs.Rows.{row, strRows, flat}
@@ -29,11 +30,11 @@ size-packed o (skip ss) = rw (length-spans o ss)
 size-packed o (un u e) = rw (size-packed o e)
 size-packed o (bin b l r) = rw (size-packed o l, size-packed (o + length (textOf l)) r)
 
-pub length-packed : (o : ℕ) (e : E) → length (flat (packed o e)) ≡ size e * 4
-length-packed o e = length-flat (packed o e) ∙ ap (λ (n : ℕ). n * 4) (size-packed o e)
+pub length-packed : (o : ℕ) (e : E) → length (flat (packed o e)) ≡ size e * rowWidth
+length-packed o e = length-flat (packed o e) ∙ ap (λ (n : ℕ). n * rowWidth) (size-packed o e)
 
-pub length-packed-strs : (o : ℕ) (ss : List Bytes) → length (strRows (spans o ss)) ≡ length ss * 4
-length-packed-strs o ss = length-strRows (spans o ss) ∙ ap (λ (n : ℕ). n * 4) (length-spans o ss)
+pub length-packed-strs : (o : ℕ) (ss : List Bytes) → length (strRows (spans o ss)) ≡ length ss * rowWidth
+length-packed-strs o ss = length-strRows (spans o ss) ∙ ap (λ (n : ℕ). n * rowWidth) (length-spans o ss)
 
 -- ---- what is written is put, and back
 
@@ -97,7 +98,7 @@ module _ {q p : Place} {e : E} {o o₁ t t₁ : List ℕ} (w : Written q p e o o
     pub bin-tree : (a : Wrote) (b : Bin) (g : Head) (n : ℕ) (o₃ : List ℕ) → g ≡ (binKind b, 0, 0) → n ≡ size e + size f + 1 → RowAnswer a s g n o₂ o₃ → Answer a p (bin b e f) o o₃ t t₂
     bin-tree a b g n o₃ d h r =
         let x = p .text in
-        let l : length (flat (packed x e) ++ flat (packed (q .text) f)) ≡ (size e + size f) * 4 = simp length-append (omega (arith, length-packed x e, length-packed (q .text) f)) in
+        let l : length (flat (packed x e) ++ flat (packed (q .text) f)) ≡ (size e + size f) * rowWidth = simp length-append (omega (arith, length-packed x e, length-packed (q .text) f)) in
         let z : s .text ≤ length t₂ = omega (arith, v .text, v .fits .text, written-lits v) in
         let y : PutAnswer a p (size e + size f + 1) ((flat (packed x e) ++ flat (packed (q .text) f)) ++ row g n) ((textOf e ++ textOf f) ++ []) o o₃ t t₂ = put-then both l a 1 (row g n) [] o₃ t₂ (put-row a s g n o₂ o₃ t₂ z r) in
         put-answer a p (bin b e f) o o₃ t t₂ (rw (size-packed x e, size-packed (x + length (textOf e)) f) (rw (append-nil, append-assoc, d, h, w .text) at y))
@@ -124,7 +125,7 @@ fits-right {l} {r} w f = record {
 
 -- ---- strings, and a Skip
 
-pub strs-none : (p : Place) (o t : List ℕ) → p .rows ≤ length o / 4 → p .text ≤ length t → StrsAnswer (Done p) p [] o o t t
+pub strs-none : (p : Place) (o t : List ℕ) → p .rows ≤ length o / rowWidth → p .text ≤ length t → StrsAnswer (Done p) p [] o o t t
 strs-none p o t h k = put-none p o t h k
 
 pub strs-one : (a : Wrote) (p : Place) (s o o′ t t′ : List ℕ) → LitAnswer a p 0 s o o′ t t′ → StrsAnswer a p (s ∷ []) o o′ t t′

@@ -3,6 +3,7 @@ use mathlib.Core.Path.{_≡_}
 use mathlib.Core.List.{List, [], _++_}
 use Prim.Native.Nat.{ℕ, zero, suc, _+_, _*_, _/_, _≤_, _<_}
 use lib.ListN.{length}
+use Rattle.grammar.specs.Numbers.{rowWidth}
 use Rattle.grammar.specs.Basic.{Bytes}
 use Rattle.grammar.specs.Rows.{row}
 use Rattle.grammar.specs.Text.{bytesAt}
@@ -49,8 +50,8 @@ runWords o t w i (suc n) = rowWords o t w i ++ runWords (o + length (rowText t w
 -- a row of the words w begins at word `at`
 pub record Begins (at : ℕ) (w : List ℕ) : Type 0 where
   pub row : ℕ
-  pub is : at ≡ row * 4
-  pub within : row < length w / 4
+  pub is : at ≡ row * rowWidth
+  pub within : row < length w / rowWidth
 
 -- a run that lies in the text s, and fits in the area t
 pub record Runs (g : Run) (s t : List ℕ) : Type 0 where
@@ -72,7 +73,7 @@ RanAnswer Full o s bs t t′ = o + length bs ≤ length t → ⊥
 
 -- row i of the words w is row j, its literal after bs
 pub record Moved (g : Run) (o : ℕ) (s w : List ℕ) (i j : ℕ) (bs u u′ t t′ : List ℕ) : Type 0 where
-  pub words : u′ ≡ stored u (j * 4) (rowWords (o + length bs) s w i)
+  pub words : u′ ≡ stored u (j * rowWidth) (rowWords (o + length bs) s w i)
   pub pending : Pending g o s (bs ++ rowText s w i) t t′
 
 abbrev pub MovedAnswer : Ran → ℕ → (s w : List ℕ) → (i j : ℕ) → (bs u u′ t t′ : List ℕ) → Type 0

@@ -3,6 +3,7 @@ use mathlib.Core.Path.{_≡_}
 use mathlib.Core.List.{List, _++_}
 use Prim.Native.Nat.{ℕ, _+_, _*_}
 use lib.ListN.{length, take}
+use Rattle.grammar.specs.Numbers.{rowWidth}
 use Rattle.grammar.specs.Basic.{Bytes}
 use Rattle.grammar.specs.Tree.{Expr, E, size}
 use Rattle.grammar.specs.Rows.{Span, flat}
@@ -17,7 +18,7 @@ use Rattle.writing.specs.declared.Wrote.the-variants.{Done, Full}
 pub record Kept (q p : Place) (e : E) (o o′ t t′ : List ℕ) : Type 0 where
   pub rows : q .rows ≡ p .rows + size e
   pub text : q .text ≡ p .text + length (textOf e)
-  pub words : take (q .rows * 4) o′ ≡ take (p .rows * 4) o ++ flat (packed (p .text) e)
+  pub words : take (q .rows * rowWidth) o′ ≡ take (p .rows * rowWidth) o ++ flat (packed (p .text) e)
   pub bytes : take (q .text) t′ ≡ take (p .text) t ++ textOf e
 
 -- the answer of a step that cannot grow, called where the tree that it reads fits: never full

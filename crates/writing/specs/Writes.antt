@@ -5,6 +5,7 @@ use mathlib.Core.List.{List}
 use Prim.Native.Nat.{ℕ, _+_, _*_, _/_, _^_, _≤_, _<_}
 use lib.ListN.{length}
 use lib.Seq.{sets}
+use Rattle.grammar.specs.Numbers.{rowWidth}
 use Rattle.grammar.specs.Basic.{Bytes}
 use Rattle.grammar.specs.Tree.{Head, E, size}
 use Rattle.grammar.specs.Rows.{Span, row, strRows, flat}
@@ -25,13 +26,13 @@ pub record Areas (o t : List ℕ) : Type 0 where
 
 -- a place within such areas
 pub record Room (p : Place) (o t : List ℕ) : Type 0 where
-  pub rows : p .rows ≤ length o / 4
+  pub rows : p .rows ≤ length o / rowWidth
   pub text : p .text ≤ length t
   pub areas : Areas o t
 
 -- n rows and m bytes fit at p
 pub record Fit (p : Place) (n m : ℕ) (o t : List ℕ) : Type 0 where
-  pub rows : p .rows + n ≤ length o / 4
+  pub rows : p .rows + n ≤ length o / rowWidth
   pub text : p .text + m ≤ length t
 
 -- n rows of the words ws and the text bs stand from p on, and nothing else of the areas has changed; q is the place after them
@@ -39,7 +40,7 @@ pub record Put (q p : Place) (n : ℕ) (ws bs o o′ t t′ : List ℕ) : Type 0
   pub fits : Fit p n (length bs) o t
   pub rows : q .rows ≡ p .rows + n
   pub text : q .text ≡ p .text + length bs
-  pub words : o′ ≡ stored o (p .rows * 4) ws
+  pub words : o′ ≡ stored o (p .rows * rowWidth) ws
   pub bytes : t′ ≡ stored t (p .text) bs
 
 -- done where they fit, and full where they do not
@@ -49,14 +50,14 @@ PutAnswer Full p n ws bs o o′ t t′ = Fit p n (length bs) o t → ⊥
 
 -- one row, its head h and its size word n, that leaves the text as it is
 pub record RowPut (q p : Place) (h : Head) (n : ℕ) (o o′ : List ℕ) : Type 0 where
-  pub room : p .rows < length o / 4
+  pub room : p .rows < length o / rowWidth
   pub rows : q .rows ≡ p .rows + 1
   pub text : q .text ≡ p .text
-  pub words : o′ ≡ stored o (p .rows * 4) (row h n)
+  pub words : o′ ≡ stored o (p .rows * rowWidth) (row h n)
 
 abbrev pub RowAnswer : Wrote → Place → Head → ℕ → (o o′ : List ℕ) → Type 0
 RowAnswer (Done q) p h n o o′ = RowPut q p h n o o′
-RowAnswer Full p h n o o′ = p .rows < length o / 4 → ⊥
+RowAnswer Full p h n o o′ = p .rows < length o / rowWidth → ⊥
 
 -- a literal of kind k with the bytes s
 abbrev pub LitAnswer : Wrote → Place → ℕ → (s o o′ t t′ : List ℕ) → Type 0
@@ -74,7 +75,7 @@ pub record StandStrs (w : List ℕ) (j k : ℕ) : Type 0 where
 
 -- the tree e fits at p
 pub record Fits (p : Place) (e : E) (o t : List ℕ) : Type 0 where
-  pub rows : p .rows + size e ≤ length o / 4
+  pub rows : p .rows + size e ≤ length o / rowWidth
   pub text : p .text + length (textOf e) ≤ length t
 
 -- the packed tree e stands from p on, and nothing else of the areas has changed; q is the place after it
@@ -82,7 +83,7 @@ pub record Written (q p : Place) (e : E) (o o′ t t′ : List ℕ) : Type 0 whe
   pub fits : Fits p e o t
   pub rows : q .rows ≡ p .rows + size e
   pub text : q .text ≡ p .text + length (textOf e)
-  pub words : o′ ≡ stored o (p .rows * 4) (flat (packed (p .text) e))
+  pub words : o′ ≡ stored o (p .rows * rowWidth) (flat (packed (p .text) e))
   pub bytes : t′ ≡ stored t (p .text) (textOf e)
 
 -- the answer of a step that can grow: done where the tree fits, and full where it does not

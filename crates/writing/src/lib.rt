@@ -3,6 +3,7 @@ ghost use mathlib.Core.Path.{_≡_};
 ghost use mathlib.Core.List.{List, map, _++_};
 ghost use Prim.Native.Nat.{ℕ, _+_, _*_, _/_, _^_, _≤_, _<_};
 ghost use lib.ListN.{length, set};
+ghost use Rattle.grammar.specs.Numbers.{rowWidth};
 ghost use Rattle.grammar.specs.Tree.{Expr};
 ghost use Rattle.grammar.specs.Rows.{Span, row};
 ghost use Rattle.grammar.specs.Text.{bytesAt, resolve};
@@ -10,6 +11,10 @@ ghost use Rattle.rows.specs.Rows.{Inside, At, AtStrs, Stands};
 ghost use Rattle.writing.specs.Writes.{stored, Areas, Room, PutAnswer, RowAnswer, LitAnswer, StandStrs, StrsAnswer, Answer};
 ghost use Rattle.writing.specs.Keeps.{KeptAnswer, Ready};
 ghost use Rattle.writing.specs.Copies.{runText, runWords, Begins, Runs, Pending, RanAnswer, MovedAnswer};
+use grammar::ROW_WIDTH;
+use grammar::SIZE;
+use grammar::X;
+use grammar::Y;
 use rows::Lookup;
 use rows::Shape;
 
@@ -39,29 +44,29 @@ pub fn copy_bytes(src: &[u8], x: usize, n: usize, dst: &mut [u8], at: usize)
 
 // Writes the four words of a row from word `at` on.
 fn set_words(out: &mut [u32], at: usize, kind: u32, x: u32, y: u32, size: u32)
-    requires { ⌜ at + 4 ≤ length (now out) ⌝ }
+    requires { ⌜ at + rowWidth ≤ length (now out) ⌝ }
     ensures { λ _. ⌜ now (out .exit) ≡ stored (now (out .entry)) at (row (kind, x, y) size) ⌝ }
 {
     out[at] = kind;
-    out[at + 1] = x;
-    out[at + 2] = y;
-    out[at + 3] = size;
+    out[at + X] = x;
+    out[at + Y] = y;
+    out[at + SIZE] = size;
 }
 
 // Writes the offset of the row that begins at word `at`.
 fn set_offset(out: &mut [u32], at: usize, x: u32)
-    requires { ⌜ at + 4 ≤ length (now out) ⌝ }
+    requires { ⌜ at + rowWidth ≤ length (now out) ⌝ }
     ensures { λ _. ⌜ now (out .exit) ≡ set (now (out .entry)) (at + 1) x ⌝ }
 {
-    out[at + 1] = x;
+    out[at + X] = x;
 }
 
 // Writes row i, where there is room for it.
 pub fn set_row(out: &mut [u32], i: usize, kind: u32, x: u32, y: u32, size: u32)
-    requires { ⌜ i < length (now out) / 4 ⌝ }
-    ensures { λ _. ⌜ now (out .exit) ≡ stored (now (out .entry)) (i * 4) (row (kind, x, y) size) ⌝ }
+    requires { ⌜ i < length (now out) / rowWidth ⌝ }
+    ensures { λ _. ⌜ now (out .exit) ≡ stored (now (out .entry)) (i * rowWidth) (row (kind, x, y) size) ⌝ }
 {
-    set_words(out, i * 4, kind, x, y, size);
+    set_words(out, i * ROW_WIDTH, kind, x, y, size);
 }
 
 // Writes one row at p.
@@ -69,7 +74,7 @@ pub fn put_row(out: &mut [u32], p: Place, kind: u32, x: u32, y: u32, size: u32) 
     ensures { λ r. ⌜ RowAnswer r p (kind, x, y) size (now (out .entry)) (now (out .exit)) ⌝ }
 {
     let i = p.rows;
-    if i < out.len() / 4 {
+    if i < out.len() / ROW_WIDTH {
         set_row(out, i, kind, x, y, size);
         Wrote::Done(Place {
             rows: i + 1,
@@ -159,12 +164,12 @@ fn copy_row(
     requires { ⌜ Inside (now rows) (length (now text)) ⌝ }
     requires { ⌜ Runs g (now text) (now lits) ⌝ }
     requires { ⌜ length (now lits) < 2 ^ 32 ⌝ }
-    ensures { λ a. ⌜ ((i j o : ℕ) (bs t : List ℕ) → from ≡ i * 4 → to ≡ j * 4 → Pending g o (now (text .entry)) bs t (now (lits .entry)) → MovedAnswer a o (now (text .entry)) (now (rows .entry)) i j bs (now (out .entry)) (now (out .exit)) t (now (lits .exit))) ⌝ }
+    ensures { λ a. ⌜ ((i j o : ℕ) (bs t : List ℕ) → from ≡ i * rowWidth → to ≡ j * rowWidth → Pending g o (now (text .entry)) bs t (now (lits .entry)) → MovedAnswer a o (now (text .entry)) (now (rows .entry)) i j bs (now (out .entry)) (now (out .exit)) t (now (lits .exit))) ⌝ }
 {
     let kind = rows[from];
-    let x = rows[from + 1];
-    let y = rows[from + 2];
-    set_words(out, to, kind, x, y, rows[from + 3]);
+    let x = rows[from + X];
+    let y = rows[from + Y];
+    set_words(out, to, kind, x, y, rows[from + SIZE]);
     if let Shape::Lit = rows::shape_of(kind) {
         let end = g.at + g.size;
         let Ran::Done(h) = next_lit(text, x as usize, y as usize, lits, g) else {
@@ -188,13 +193,13 @@ fn copy_rows(
     lits: &mut [u8],
     p: Place,
 ) -> Wrote
-    requires { ⌜ i + n ≤ length (now rows) / 4 ⌝ }
+    requires { ⌜ i + n ≤ length (now rows) / rowWidth ⌝ }
     requires { ⌜ Inside (now rows) (length (now text)) ⌝ }
     requires { ⌜ Room p (now out) (now lits) ⌝ }
     ensures { λ a. ⌜ PutAnswer a p n (runWords (p .text) (now (text .entry)) (now (rows .entry)) i n) (runText (now (text .entry)) (now (rows .entry)) i n) (now (out .entry)) (now (out .exit)) (now (lits .entry)) (now (lits .exit)) ⌝ }
 {
     let first = p.rows;
-    if out.len() / 4 - first < n {
+    if out.len() / ROW_WIDTH - first < n {
         return Wrote::Full;
     }
     let mut g = Run {
@@ -202,16 +207,16 @@ fn copy_rows(
         size: 0,
         at: p.text,
     };
-    let mut from = i * 4;
-    let mut to = first * 4;
-    let end = (i + n) * 4;
+    let mut from = i * ROW_WIDTH;
+    let mut to = first * ROW_WIDTH;
+    let end = (i + n) * ROW_WIDTH;
     while from < end {
         let Ran::Done(h) = copy_row(rows, text, from, out, to, lits, g) else {
             return Wrote::Full;
         };
         g = h;
-        from += 4;
-        to += 4;
+        from += ROW_WIDTH;
+        to += ROW_WIDTH;
     }
     copy_bytes(text, g.from, g.size, lits, g.at);
     Wrote::Done(Place {

@@ -7,8 +7,11 @@ use Rattle.areas.proofs.words_lent.Tie as tie
 size-requires : tie.Need-size-requires
 size-requires c κs = search needs
 
+slice-aggregate-result : tie.Need-slice-aggregate-result
+slice-aggregate-result c = sym (length-take-le _ _ (c .before .size .ensures))
+
 returns : tie.Need-returns
-returns c = (c .size .ensures, sym (length-take-le _ _ (c .size .ensures)))
+returns c = search needs
 
 pub words-lent-spec : {M : Type 1} → statement M
-words-lent-spec = tie.close (tie.spec size-requires returns)
+words-lent-spec = tie.close (tie.spec size-requires slice-aggregate-result returns)

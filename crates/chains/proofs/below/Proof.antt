@@ -4,6 +4,7 @@ use mathlib.Core.List.{List}
 use lib.ListN.{length}
 use native.Mathlib.Omega.{arith}
 use borrow.Author.Needs.{needs}
+use Rattle.grammar.specs.Numbers.{rowWidth}
 use Rattle.rows.specs.Rows.{Stands, kindAt}
 use Rattle.rows.proofs.Laws.{root, found-row}
 use Rattle.rows.proofs.Cells.{tells-yes, tells-no}
@@ -19,7 +20,7 @@ abbrev μ-loop : tie.MeasureT-loop
 μ-loop rows root base₀ base = base
 
 -- the row lies in the table
-there : {w : List ℕ} {i base : ℕ} → Stands w i → Downs w i base → base < length w / 4
+there : {w : List ℕ} {i base : ℕ} → Stands w i → Downs w i base → base < length w / rowWidth
 there s d = root (d (s .tree) (s .at) .at) .inside
 
 loop-holds : tie.Need-loop-holds Inv-loop μ-loop

@@ -18,6 +18,37 @@ Inv-loop out₀ s kind n at₀ last m first₀ end out at first = Turns out₀ (
 abbrev μ-loop : tie.MeasureT-loop
 μ-loop out₀ s kind n at₀ last m first₀ end out at first = end - at
 
+-- the points that are looked back to
+abbrev enum-told2-to-start : tie.After-enum-told2 Inv-loop μ-loop → tie.Start Inv-loop μ-loop
+enum-told2-to-start c = c .before .before .before .before .before .before .before .before .before .before .before .before
+
+abbrev known-told2-to-slice-known : tie.After-known-told2 Inv-loop μ-loop → tie.After-slice-known Inv-loop μ-loop
+known-told2-to-slice-known c = c .before .before .before .before .before .before .before .before .before .before .before .before
+
+abbrev known-told2-to-start : tie.After-known-told2 Inv-loop μ-loop → tie.Start Inv-loop μ-loop
+known-told2-to-start c = (known-told2-to-slice-known c) .before
+
+abbrev m-to-start : tie.After-m Inv-loop μ-loop → tie.Start Inv-loop μ-loop
+m-to-start c = c .before .before .before .before .before
+
+abbrev set-row-arg-to-row-at-arg : tie.After-set-row-arg Inv-loop μ-loop → tie.After-row-at-arg Inv-loop μ-loop
+set-row-arg-to-row-at-arg c = c .before .before .before .before .before .before .before .before .before .before .before .before
+
+abbrev set-row-arg-to-start : tie.After-set-row-arg Inv-loop μ-loop → tie.Start Inv-loop μ-loop
+set-row-arg-to-start c = (set-row-arg-to-row-at-arg c) .before .before
+
+abbrev slice-known2-to-at-loop : tie.After-slice-known2 Inv-loop μ-loop → tie.At-loop Inv-loop μ-loop
+slice-known2-to-at-loop c = c .before .before .before .before .before .before .before .before .before .before
+
+abbrev slice-known2-to-in-loop : tie.After-slice-known2 Inv-loop μ-loop → tie.In-loop Inv-loop μ-loop
+slice-known2-to-in-loop c = c .before .before .before .before .before .before .before .before .before
+
+abbrev slice-known2-to-m : tie.After-slice-known2 Inv-loop μ-loop → tie.After-m Inv-loop μ-loop
+slice-known2-to-m c = c .before .before .before .before .before .before .before .before .before .before .before .before
+
+abbrev slice-known2-to-start : tie.After-slice-known2 Inv-loop μ-loop → tie.Start Inv-loop μ-loop
+slice-known2-to-start c = m-to-start (slice-known2-to-m c)
+
 -- the rows that were read
 right-read : (c : tie.After-known-told Inv-loop μ-loop) → let k = c .before .m .given .0 in Found (c .before .before .before .before .before .before .args .out .now) (c .before .before .before .before .before .before .args .s .rows - 1) (k .0) (k .1 .0) (k .1 .1 .0) (k .1 .1 .1 .0)
 right-read c = row-found (sym (c .before .before .before .row-at .ensures) ∙ c .before .m .given .1)
@@ -83,11 +114,11 @@ enum-told-2 c = search needs
 
 -- src/lib.rt:42:13
 same-length-2 : tie.Need-same-length-2 Inv-loop μ-loop
-same-length-2 c = same-words (c .before .before .before .before .before .before .before .before .before .before .before .before .pre .0) (c .before .before .before .before .before .before .before .before .before .before .before .before .pre .1) (c .before .before .before .before .before .loop .inv)
+same-length-2 c = same-words ((enum-told2-to-start c) .pre .0) ((enum-told2-to-start c) .pre .1) (c .before .before .before .before .before .loop .inv)
 
 -- src/lib.rt:42:13
 returns-2 : tie.Need-returns-2 Inv-loop μ-loop
-returns-2 c = absurd (root-there (left-at (c .before .before .before .before .before .before .before .before .before .before .before .before .pre .0) (c .before .before .before .before .before .before .before .before .before .before .before .before .pre .1) (c .before .before .before .before .before .loop .inv) (c .before .before .before .before .loop-test .taken)) (sym (c .before .before .row-at2 .ensures) ∙ c .enum-told2 .given .1))
+returns-2 c = absurd (root-there (left-at ((enum-told2-to-start c) .pre .0) ((enum-told2-to-start c) .pre .1) (c .before .before .before .before .before .loop .inv) (c .before .before .before .before .loop-test .taken)) (sym (c .before .before .row-at2 .ensures) ∙ c .enum-told2 .given .1))
 
 -- src/lib.rt:44:18
 cast-first-2 : tie.Need-cast-first-2 Inv-loop μ-loop
@@ -95,35 +126,35 @@ cast-first-2 c = search needs
 
 -- src/lib.rt:44:9
 sub-first-2 : tie.Need-sub-first-2 Inv-loop μ-loop
-sub-first-2 c = read-most (c .before .before .before .before .before .before .before .before .before .before .before .before .before .pre .0) (c .before .before .before .before .before .before .before .before .before .before .before .before .before .pre .1) (c .before .before .before .before .before .before .loop .inv) (c .before .before .before .before .before .loop-test .taken) (left-read c)
+sub-first-2 c = read-most ((known-told2-to-start c) .pre .0) ((known-told2-to-start c) .pre .1) (c .before .before .before .before .before .before .loop .inv) (c .before .before .before .before .before .loop-test .taken) (left-read c)
 
 -- src/lib.rt:45:48
 add-set-row : tie.Need-add-set-row Inv-loop μ-loop
-add-set-row c = omega (arith, c .before .before .before .before .before .before .before .before .before .before .before .before .before .before .pre .1 .room, c .before .before .before .before .before .before .loop-test .taken)
+add-set-row c = omega (arith, (set-row-arg-to-start c) .pre .1 .room, c .before .before .before .before .before .before .loop-test .taken)
 
 -- src/lib.rt:45:48
 sub-set-row : tie.Need-sub-set-row Inv-loop μ-loop
-sub-set-row c = omega (arith, first-most (c .before .before .before .before .before .before .before .before .before .before .before .before .before .before .pre .0) (c .before .before .before .before .before .before .before .before .before .before .before .before .before .before .pre .1) (c .before .before .before .before .before .before .before .loop .inv) (c .before .before .before .before .before .before .loop-test .taken))
+sub-set-row c = omega (arith, first-most ((set-row-arg-to-start c) .pre .0) ((set-row-arg-to-start c) .pre .1) (c .before .before .before .before .before .before .before .loop .inv) (c .before .before .before .before .before .before .loop-test .taken))
 
 -- src/lib.rt:45:47
 cast-set-row : tie.Need-cast-set-row Inv-loop μ-loop
-cast-set-row c = omega (arith, c .before .before .before .before .before .before .before .before .before .before .before .before .before .before .pre .1 .room, c .before .before .before .before .before .before .before .before .before .before .before .before .before .before .pre .1 .words, c .before .before .before .before .before .before .loop-test .taken)
+cast-set-row c = omega (arith, (set-row-arg-to-start c) .pre .1 .room, (set-row-arg-to-start c) .pre .1 .words, c .before .before .before .before .before .before .loop-test .taken)
 
 -- src/lib.rt:45:9
 set-row-requires : tie.Need-set-row-requires Inv-loop μ-loop
-set-row-requires c κs = omega (arith, c .before .before .before .before .before .before .before .before .before .before .before .before .before .before .pre .1 .room, c .before .before .before .before .before .before .loop-test .taken, same-words (c .before .before .before .before .before .before .before .before .before .before .before .before .before .before .pre .0) (c .before .before .before .before .before .before .before .before .before .before .before .before .before .before .pre .1) (c .before .before .before .before .before .before .before .loop .inv))
+set-row-requires c κs = omega (arith, (set-row-arg-to-start c) .pre .1 .room, c .before .before .before .before .before .before .loop-test .taken, same-words ((set-row-arg-to-start c) .pre .0) ((set-row-arg-to-start c) .pre .1) (c .before .before .before .before .before .before .before .loop .inv))
 
 -- src/lib.rt:46:9
 add-at : tie.Need-add-at Inv-loop μ-loop
-add-at c = omega (arith, c .before .before .before .before .before .before .before .before .before .before .before .before .before .before .before .before .before .pre .1 .room, c .before .before .before .before .before .before .before .before .before .loop-test .taken)
+add-at c = omega (arith, (slice-known2-to-start c) .pre .1 .room, (slice-known2-to-in-loop c) .loop-test .taken)
 
 -- src/lib.rt:33:5
 loop-less : tie.Need-loop-less Inv-loop μ-loop
-loop-less c = omega (arith, c .before .before .before .before .before .before .before .before .before .loop-test .taken)
+loop-less c = omega (arith, (slice-known2-to-in-loop c) .loop-test .taken)
 
 -- src/lib.rt:33:5
 loop-again : tie.Need-loop-again Inv-loop μ-loop
-loop-again c = turns-more (c .before .before .before .before .before .before .before .before .before .before .before .before .before .before .before .before .before .pre .0) (c .before .before .before .before .before .before .before .before .before .before .before .before .before .before .before .before .before .pre .1) (c .before .before .before .before .before .before .before .before .before .before .loop .inv) (c .before .before .before .before .before .before .before .before .before .loop-test .taken) (left-read (c .before .before .before .before)) (c .before .before .set-row .ensures)
+loop-again c = turns-more ((slice-known2-to-start c) .pre .0) ((slice-known2-to-start c) .pre .1) ((slice-known2-to-at-loop c) .loop .inv) ((slice-known2-to-in-loop c) .loop-test .taken) (left-read (c .before .before .before .before)) (c .before .before .set-row .ensures)
 
 -- src/lib.rt:14:1
 same-length-3 : tie.Need-same-length-3 Inv-loop μ-loop

@@ -4,6 +4,7 @@ use Prim.Native.Nat.{_+_, _-_, _/_, _≤_, _<_}
 use native.Mathlib.Omega.{arith}
 use lib.ListN.{length}
 use borrow.Author.Needs.{needs}
+use Rattle.grammar.specs.Numbers.{rowWidth}
 use Rattle.rows.proofs.Laws.{Found, row-found, row-there, root}
 use Rattle.chains.proofs.Runs.{Up, up-none, up-more, up-all}
 use Rattle.chains.proofs.raise.Statement.{statement}
@@ -24,7 +25,7 @@ read : (c : tie.After-known-told Inv-loop μ-loop) → let k = c .before .kind .
 read c = row-found (sym (c .before .before .before .row-at .ensures) ∙ c .before .kind .given .1)
 
 -- there is room for a row of the run
-room : (c : tie.In-loop Inv-loop μ-loop) → c .before .loop .at < length (c .before .before .before .before .args .out .now) / 4
+room : (c : tie.In-loop Inv-loop μ-loop) → c .before .loop .at < length (c .before .before .before .before .args .out .now) / rowWidth
 room c = let z = c .before .before .before .before .pre in let u = c .before .loop .inv in omega (arith, z .run, z .room, u .end, c .loop-test .taken)
 
 -- src/lib.rt:90:5

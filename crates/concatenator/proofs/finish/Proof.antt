@@ -8,11 +8,15 @@ use borrow.Author.Needs.{needs}
 use Rattle.concatenator.proofs.finish.Statement.{statement}
 use Rattle.concatenator.proofs.finish.Tie as tie
 
+-- the points that are looked back to
+abbrev from-known-told-to-start : tie.After-known-told → tie.Start
+from-known-told-to-start c = c .before .before .before .before .before .before .before .before
+
 -- the rows that were read
 first-read : (c : tie.After-known-told) → let k = c .before .a .given .0 in Found (c .before .before .before .before .before .before .before .before .args .out .now) (c .before .before .before .before .before .before .before .before .args .q .rows - 1) (k .0) (k .1 .0) (k .1 .1 .0) (k .1 .1 .1 .0)
 first-read c = row-found (sym (c .before .before .before .row-at .ensures) ∙ c .before .a .given .1)
 
-second-read : (c : tie.After-known-told2) → let k = c .before .b .given .0 in Found (c .before .before .before .before .before .before .before .before .before .before .before .before .before .args .out .now) (c .before .before .before .before .before .before .before .before .before .before .before .before .before .args .s .rows - 1) (k .0) (k .1 .0) (k .1 .1 .0) (k .1 .1 .1 .0)
+second-read : (c : tie.After-known-told2) → let k = c .before .b .given .0 in Found ((from-known-told-to-start (c .before .before .before .before .before)) .args .out .now) ((from-known-told-to-start (c .before .before .before .before .before)) .args .s .rows - 1) (k .0) (k .1 .0) (k .1 .1 .0) (k .1 .1 .1 .0)
 second-read c = row-found (sym (c .before .before .before .row-at2 .ensures) ∙ c .before .b .given .1)
 
 sub-first : tie.Need-sub-first
@@ -88,13 +92,13 @@ same-length-3 : tie.Need-same-length-3
 same-length-3 c = search needs
 
 returns-3 : tie.Need-returns-3
-returns-3 c = ends-lit (first-read (c .before .before .before .before .before .before .before .before .before .before .before)) (second-read (c .before .before .before .before .before .before)) (c .before .before .before .before .before .before .before .before .before .before .before .before .before .before .before .before .before .before .before .args .kind) (c .before .before .before .before .before .joins .ensures) _ _ _ _ (c .before .before .before .before .if1 .taken) (record { rows = refl; text = refl; words = c .before .before .set-row .ensures })
+returns-3 c = ends-lit (first-read (c .before .before .before .before .before .before .before .before .before .before .before)) (second-read (c .before .before .before .before .before .before)) ((from-known-told-to-start (c .before .before .before .before .before .before .before .before .before .before .before)) .args .kind) (c .before .before .before .before .before .joins .ensures) _ _ _ _ (c .before .before .before .before .if1 .taken) (record { rows = refl; text = refl; words = c .before .before .set-row .ensures })
 
 same-length-4 : tie.Need-same-length-4
 same-length-4 c = search needs
 
 returns-4 : tie.Need-returns-4
-returns-4 c = ends-row (first-read (c .before .before .before .before .before .before .before .before .before .before .before)) (second-read (c .before .before .before .before .before .before)) (c .before .before .before .before .before .before .before .before .before .before .before .before .before .before .before .before .before .before .before .args .kind) (c .before .before .before .before .before .joins .ensures) _ _ _ _ (c .before .before .before .before .if1 .left) (record { rows = refl; text = refl; words = c .before .before .set-row2 .ensures })
+returns-4 c = ends-row (first-read (c .before .before .before .before .before .before .before .before .before .before .before)) (second-read (c .before .before .before .before .before .before)) ((from-known-told-to-start (c .before .before .before .before .before .before .before .before .before .before .before)) .args .kind) (c .before .before .before .before .before .joins .ensures) _ _ _ _ (c .before .before .before .before .if1 .left) (record { rows = refl; text = refl; words = c .before .before .set-row2 .ensures })
 
 pub finish-spec : {M : Type 1} → statement M
 finish-spec =

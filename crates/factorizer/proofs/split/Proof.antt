@@ -1,81 +1,41 @@
-use mathlib.Core.Path.{sym, _∙_}
-use Prim.Native.Nat.{_-_}
+-- `split` meets its contract, by the kind of the row. Assumes nothing.
 use native.Mathlib.Omega.{arith}
-use Rattle.rows.proofs.Laws.{Found, row-found, root-there, found-size}
-use Rattle.rows.proofs.Views.{TwoView, two-none}
-use Rattle.factorizer.proofs.Splits.{seq-view, seq-at}
-use borrow.Author.Needs.{needs}
+use Rattle.grammar.specs.Tree.{Expr, Seq}
+use Rattle.grammar.specs.Rows.{Span}
+use Rattle.rows.specs.Rows.{At, kindAt}
+use Rattle.rows.proofs.Laws.{root, found-row}
+use Rattle.rows.proofs.Views.{bin-half, SidesAt, sides-at, two-none}
+use Rattle.factorizer.proofs.Splits.{seq-at}
 use Rattle.factorizer.proofs.split.Statement.{statement}
 use Rattle.factorizer.proofs.split.Tie as tie
-use Rattle.factorizer.proofs.split.Reads as reads
-use Rattle.factorizer.proofs.split.Lts as lts
-use Rattle.rows.proofs.row_at.Reads as row-at-reads
-use Rattle.rows.proofs.wide.Reads as wide-reads
 
--- ---- what is known
-row : (m : tie.After-known-told) → let k = m .before .k .given .0 in let a = m .before .before .before .before .before .args in Found (a .rows .now) (a .root) (k .0) (k .1 .0) (k .1 .1 .0) (k .1 .1 .1 .0)
-row m = row-found (sym (m .before .before .before .row-at .ensures) ∙ m .before .k .given .1)
+-- the sides of the Seq
+sides : (c : tie.After-left-of) (x : Expr Span) → let s = c .before .before .before .before .args in At (s .rows .now) (s .root) x → SidesAt Seq (s .rows .now) (s .root) (c .left-of .result) x
+unfolding kindAt
+sides c x a = sides-at Seq a (c .before .if1 .left) (c .left-of .ensures)
 
-tail-row : (m : tie.After-known-told2) → let k = m .before .n .given .0 in let a = m .before .before .before .before .before .before .before .before .before .before .args in Found (a .rows .now) (a .root - 1) (k .0) (k .1 .0) (k .1 .1 .0) (k .1 .1 .1 .0)
-tail-row m = row-found (sym (m .before .before .before .row-at2 .ensures) ∙ m .before .n .given .1)
+mul-if1 : tie.Need-mul-if1
+mul-if1 c = omega (arith, root (c .before .pre .at) .inside)
 
-view : (c : tie.Else1) → let k = c .before .before .k .given .0 in let s = c .before .before .before .before .before .before in TwoView (s .args .rows .now) (s .args .root) (k .0) (k .1 .0) (k .1 .1 .0) (k .1 .1 .1 .0) (s .pre .tree)
-view c = seq-view (row (c .before)) (c .before .before .before .before .before .before .pre .at) (c .if1 .left)
+mul-if1-2 : tie.Need-mul-if1-2
+mul-if1-2 c = omega (arith, root (c .before .pre .at) .inside)
 
--- ---- needs
-row-at-requires : tie.Need-row-at-requires
-row-at-requires c κs = search needs
-
-enum-known-k : tie.Need-enum-known-k
-enum-known-k c = search needs
-
-enum-told : tie.Need-enum-told
-enum-told c = search needs
+shared-slice-read-if1 : tie.Need-shared-slice-read-if1
+shared-slice-read-if1 c = omega (arith, root (c .before .before .pre .at) .inside)
 
 returns : tie.Need-returns
-returns c = absurd (root-there (c .before .before .before .before .pre .at) (sym (c .before .before .row-at .ensures) ∙ c .enum-told .given .1))
+unfolding kindAt
+returns c = λ t x a. two-none t 8 (found-row _ _ (root a .inside)) a (c .if1 .taken)
+
+left-of-requires : tie.Need-left-of-requires
+unfolding kindAt
+left-of-requires c κs = (c .before .before .before .pre, bin-half Seq (c .if1 .left))
+
+sub-t4 : tie.Need-sub-t4
+sub-t4 c = omega (arith, sides c _ (c .before .before .before .before .pre .at) .some)
 
 returns-2 : tie.Need-returns-2
-returns-2 c = λ t x a. two-none t 8 (row (c .before)) a (c .if1 .taken)
-
-sub-tail : tie.Need-sub-tail
-sub-tail c = let v = view c in omega (arith, v .leastLeft, v .most)
-
-row-at-requires-2 : tie.Need-row-at-requires-2
-row-at-requires-2 c κs = search needs
-
-enum-known-n : tie.Need-enum-known-n
-enum-known-n c = search needs
-
-enum-told-2 : tie.Need-enum-told-2
-enum-told-2 c = search needs
-
-returns-3 : tie.Need-returns-3
-returns-3 c = absurd (root-there (view (c .before .before .before) .atRight) (sym (c .before .before .row-at2 .ensures) ∙ c .enum-told2 .given .1))
-
-wide-requires : tie.Need-wide-requires
-wide-requires c κs = search needs
-
-sub-head : tie.Need-sub-head
-sub-head c = let v = view (c .before .before .before .before .before) in omega (arith, c .wide .ensures, found-size (tail-row (c .before)) (v .atRight), v .leastLeft, v .most)
-
-returns-4 : tie.Need-returns-4
-returns-4 c = λ t x a. seq-at (row (c .before .before .before .before .before .before)) a (c .before .before .before .before .before .if1 .left) (tail-row (c .before)) (c .wide .ensures)
+returns-2 c = λ t x a. seq-at (sides c x a)
 
 pub split-spec : {M : Type 1} → statement M
-split-spec =
-    tie.close
-    (tie.spec
-    row-at-requires
-    enum-known-k
-    enum-told
-    returns
-    returns-2
-    sub-tail
-    row-at-requires-2
-    enum-known-n
-    enum-told-2
-    returns-3
-    wide-requires
-    sub-head
-    returns-4)
+split-spec = tie.close (tie.spec mul-if1 mul-if1-2 shared-slice-read-if1 returns left-of-requires sub-t4 returns-2)

@@ -8,6 +8,13 @@ use Rattle.lister.proofs.move_down.Reads as move-down-reads
 use Rattle.writing.proofs.put_row.Reads as put-row-reads
 use Rattle.writing.proofs.set_row.Reads as set-row-reads
 
+-- the points that are looked back to
+abbrev from-set-row-to-start : tie.After-set-row → tie.Start
+from-set-row-to-start c = c .before .before .before .before .before .before .before
+
+abbrev from-set-row-to-move-down : tie.After-set-row → tie.After-move-down
+from-set-row-to-move-down c = c .before .before .before .before
+
 sub-move-down : tie.Need-sub-move-down
 sub-move-down c = search needs
 
@@ -48,8 +55,8 @@ same-length : tie.Need-same-length
 same-length c = search needs
 
 returns : tie.Need-returns
-returns c = let s = c .before .before .before .before .before .before .before .before .before .before .before .before .before .before .before .before .before in
-    mended (c .before .before .put-row .result) (s .args .s) (s .args .from) (s .args .n) (s .args .m) _ _ _ _ _ (s .pre .0) (c .before .before .before .before .before .before .before .before .before .before .before .before .before .before .move-down .ensures) (c .before .before .before .before .before .before .before .before .before .before .set-row .ensures) (c .before .before .before .before .before .before .set-row2 .ensures) (c .before .before .put-row .ensures)
+returns c = let s = (from-set-row-to-start (c .before .before .before .before .before .before .before .before .before .before)) in
+    mended (c .before .before .put-row .result) (s .args .s) (s .args .from) (s .args .n) (s .args .m) _ _ _ _ _ (s .pre .0) ((from-set-row-to-move-down (c .before .before .before .before .before .before .before .before .before .before)) .move-down .ensures) (c .before .before .before .before .before .before .before .before .before .before .set-row .ensures) (c .before .before .before .before .before .before .set-row2 .ensures) (c .before .before .put-row .ensures)
 
 pub mend-spec : {M : Type 1} → statement M
 mend-spec =

@@ -1,5 +1,6 @@
 use borrow.Author.Needs.{needs}
 use native.Mathlib.Omega.{arith}
+use Rattle.names.specs.Names.{halves}
 use Rattle.names.proofs.Index.{cleared}
 use borrow.Author.Needs.{needs}
 use Rattle.names.proofs.clear.Statement.{statement}

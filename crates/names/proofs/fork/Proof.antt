@@ -1,3 +1,4 @@
+use Rattle.names.specs.Names.{halves, ifNot, ifSo}
 use Rattle.names.proofs.Index.{forked-is}
 use Prim.Native.Nat.{_+_, _*_}
 use borrow.Author.Needs.{needs}
@@ -40,7 +41,7 @@ same-length : tie.Need-same-length
 same-length c = search needs
 
 returns : tie.Need-returns
-returns c = let p = c .before .before .before .before .before .before in let q = p .before .before .before .before in let o = q .before .before .before .before in let a = o .before .before .before .args in forked-is (a .marks .now) (a .i * 8) (a .d) (a .i * 8 + 4) (a .j) (a .i * 8 + 5) (a .i) (a .slot) (a .count + a .i) (o .set-half .ensures) (q .set-half2 .ensures) (p .set-half3 .ensures) (c .before .before .set-half4 .ensures)
+returns c = let p = c .before .before .before .before .before .before in let q = p .before .before .before .before in let o = q .before .before .before .before in let a = o .before .before .before .args in forked-is (a .marks .now) (a .i * halves) (a .d) (a .i * halves + ifNot) (a .j) (a .i * halves + ifSo) (a .i) (a .slot) (a .count + a .i) (o .set-half .ensures) (q .set-half2 .ensures) (p .set-half3 .ensures) (c .before .before .set-half4 .ensures)
 
 pub fork-spec : {M : Type 1} → statement M
 fork-spec =

@@ -3,6 +3,7 @@ use Prim.Native.Nat.{ℕ, suc, _+_, _-_, _*_, _/_, _≤_, _<_}
 use borrow.Author.Needs.{needs}
 use native.Mathlib.Omega.{arith}
 use lib.ListN.{length, getD}
+use Rattle.grammar.specs.Numbers.{ruleWidth}
 use Rattle.names.specs.Names.{Indexed}
 use borrow.Author.Tests.{not-true, not-false}
 use mathlib.Core.Bool.{true≢false}
@@ -11,10 +12,10 @@ use Rattle.names.proofs.index_names.Statement.{statement}
 use Rattle.names.proofs.index_names.Tie as tie
 
 abbrev Inv-loop : tie.InvT-loop
-Inv-loop rules text marks₀ count i₀ marks i = (i ≤ length rules / 4) × (length marks ≡ length marks₀) × Indexed i rules text marks
+Inv-loop rules text marks₀ count i₀ marks i = (i ≤ length rules / ruleWidth) × (length marks ≡ length marks₀) × Indexed i rules text marks
 
 abbrev μ-loop : tie.MeasureT-loop
-μ-loop rules text marks₀ count i₀ marks i = length rules / 4 - i
+μ-loop rules text marks₀ count i₀ marks i = length rules / ruleWidth - i
 
 clear-requires : tie.Need-clear-requires Inv-loop μ-loop
 clear-requires c κs = let s = c .before .before .before .before in (s .pre .1 .0, s .pre .1 .1 .0)
@@ -44,7 +45,7 @@ same-length-2 : tie.Need-same-length-2 Inv-loop μ-loop
 same-length-2 c = c .before .loop .inv .1 ∙ c .before .before .before .before .clear .kept .1 .1 .0
 
 returns-2 : tie.Need-returns-2 Inv-loop μ-loop
-returns-2 c = let s = c .before .before .before .before .before .before .before .before .before in let l = c .before .loop in let e : l .i ≡ length (s .args .rules .now) / 4 = omega (arith, c .loop-test .left, l .inv .0) in record { yes = λ _. indexed-all (s .pre .0) (rw e at (l .inv .2)); no = λ e. absurd (true≢false e) }
+returns-2 c = let s = c .before .before .before .before .before .before .before .before .before in let l = c .before .loop in let e : l .i ≡ length (s .args .rules .now) / ruleWidth = omega (arith, c .loop-test .left, l .inv .0) in record { yes = λ _. indexed-all (s .pre .0) (rw e at (l .inv .2)); no = λ e. absurd (true≢false e) }
 
 pub index-names-spec : {M : Type 1} → statement M
 index-names-spec =

@@ -3,17 +3,18 @@ use Prim.Native.Nat.{ℕ, suc, _+_, _-_, _*_, _/_, _≤_, _<_}
 use borrow.Author.Needs.{needs}
 use native.Mathlib.Omega.{arith}
 use lib.ListN.{length, getD}
+use Rattle.grammar.specs.Numbers.{ruleWidth}
 use Rattle.grammar.specs.Text.{bytesAt}
-use Rattle.names.specs.Names.{nameOf, bucketOf, halfAt, Way, Indexed}
+use Rattle.names.specs.Names.{nameOf, bucketOf, halfAt, Way, Indexed, halves}
 use Rattle.names.proofs.Index.{stepsLeft, way-start, node-there, next-way, next-less}
 use Rattle.names.proofs.spot_of.Statement.{statement}
 use Rattle.names.proofs.spot_of.Tie as tie
 
 abbrev Inv-loop : tie.InvT-loop
-Inv-loop rules text marks text2 x n count start slot₀ holds₀ slot holds = (holds ≡ halfAt marks slot) × ((k : ℕ) → Indexed k rules text marks → Way (length rules / 4) k (nameOf rules text) marks (bytesAt text2 (x, n)) (bucketOf (length rules / 4) (bytesAt text2 (x, n)) * 8 + 1) slot)
+Inv-loop rules text marks text2 x n count start slot₀ holds₀ slot holds = (holds ≡ halfAt marks slot) × ((k : ℕ) → Indexed k rules text marks → Way (length rules / ruleWidth) k (nameOf rules text) marks (bytesAt text2 (x, n)) (bucketOf (length rules / ruleWidth) (bytesAt text2 (x, n)) * halves + 1) slot)
 
 abbrev μ-loop : tie.MeasureT-loop
-μ-loop rules text marks text2 x n count start slot₀ holds₀ slot holds = stepsLeft (length rules / 4) holds
+μ-loop rules text marks text2 x n count start slot₀ holds₀ slot holds = stepsLeft (length rules / ruleWidth) holds
 
 bucket-of-requires : tie.Need-bucket-of-requires Inv-loop μ-loop
 bucket-of-requires c κs = let s = c .before .before .before .before in (s .pre .1 .1 .1, s .pre .1 .1 .0)

@@ -5,16 +5,17 @@ use borrow.Author.Needs.{needs}
 use native.Mathlib.Nat.{zero-add}
 use native.Mathlib.Omega.{arith}
 use lib.ListN.{length, drop}
+use Rattle.grammar.specs.Numbers.{rowWidth}
 use Rattle.packing.specs.Packing.{sumFour, rowLength}
 use Rattle.packing.proofs.Sums.{sum-more, sum-done}
 use Rattle.packing.proofs.lits_size.Statement.{statement}
 use Rattle.packing.proofs.lits_size.Tie as tie
 
 abbrev Inv-loop : tie.InvT-loop
-Inv-loop rows count sum₀ i₀ sum i = (i ≤ length rows / 4) × (sum ≤ i * 2 ^ 32) × (sum + sumFour rowLength (drop (i * 4) rows) ≡ sumFour rowLength rows)
+Inv-loop rows count sum₀ i₀ sum i = (i ≤ length rows / rowWidth) × (sum ≤ i * 2 ^ 32) × (sum + sumFour rowLength (drop (i * rowWidth) rows) ≡ sumFour rowLength rows)
 
 abbrev μ-loop : tie.MeasureT-loop
-μ-loop rows count sum₀ i₀ sum i = length rows / 4 - i
+μ-loop rows count sum₀ i₀ sum i = length rows / rowWidth - i
 
 loop-holds : tie.Need-loop-holds Inv-loop μ-loop
 loop-holds c = (omega arith, omega arith, zero-add _)

@@ -5,16 +5,17 @@ use borrow.Author.Needs.{needs}
 use native.Mathlib.Nat.{zero-add}
 use native.Mathlib.Omega.{arith}
 use lib.ListN.{length, drop}
+use Rattle.grammar.specs.Numbers.{ruleWidth}
 use Rattle.packing.specs.Packing.{sumFour, nameLength}
 use Rattle.packing.proofs.Sums.{sum-more, sum-done}
 use Rattle.packing.proofs.names_size.Statement.{statement}
 use Rattle.packing.proofs.names_size.Tie as tie
 
 abbrev Inv-loop : tie.InvT-loop
-Inv-loop rules count sum₀ i₀ sum i = (i ≤ length rules / 4) × (sum ≤ i * 2 ^ 32) × (sum + sumFour nameLength (drop (i * 4) rules) ≡ sumFour nameLength rules)
+Inv-loop rules count sum₀ i₀ sum i = (i ≤ length rules / ruleWidth) × (sum ≤ i * 2 ^ 32) × (sum + sumFour nameLength (drop (i * ruleWidth) rules) ≡ sumFour nameLength rules)
 
 abbrev μ-loop : tie.MeasureT-loop
-μ-loop rules count sum₀ i₀ sum i = length rules / 4 - i
+μ-loop rules count sum₀ i₀ sum i = length rules / ruleWidth - i
 
 loop-holds : tie.Need-loop-holds Inv-loop μ-loop
 loop-holds c = (omega arith, omega arith, zero-add _)

@@ -4,6 +4,19 @@ use Rattle.packing.proofs.Overs.{stored-over}
 use Rattle.packing.proofs.put_out.Statement.{statement}
 use Rattle.packing.proofs.put_out.Tie as tie
 
+-- the points that are looked back to
+abbrev copy-words-arg-to-start : tie.After-copy-words-arg → tie.Start
+copy-words-arg-to-start c = c .before .before .before .before .before .before .before
+
+abbrev slice-known6-to-copy-words : tie.After-slice-known6 → tie.After-copy-words
+slice-known6-to-copy-words c = c .before .before .before .before .before .before .before .before .before .before .before
+
+abbrev slice-known6-to-copy-words-arg : tie.After-slice-known6 → tie.After-copy-words-arg
+slice-known6-to-copy-words-arg c = c .before .before .before .before .before .before .before .before .before .before .before .before
+
+abbrev slice-known6-to-start : tie.After-slice-known6 → tie.Start
+slice-known6-to-start c = copy-words-arg-to-start (slice-known6-to-copy-words-arg c)
+
 copy-words-requires : tie.Need-copy-words-requires
 copy-words-requires c κs = search needs
 
@@ -27,8 +40,8 @@ same-length-3 c = search needs
 
 returns : tie.Need-returns
 returns c =
-    let q = c .before .before .before .before .before .before .before .before .before .before .before .before .before .before .before .before .before .before .before .pre in
-    (c .before .before .before .before .before .before .before .before .before .before .before .copy-words .ensures, (c .before .before .before .before .before .before .copy-words2 .ensures, c .before .before .copy-bytes .ensures ∙ stored-over _ _ _ (q .text) (q .out-text)))
+    let q = (slice-known6-to-start c) .pre in
+    ((slice-known6-to-copy-words c) .copy-words .ensures, (c .before .before .before .before .before .before .copy-words2 .ensures, c .before .before .copy-bytes .ensures ∙ stored-over _ _ _ (q .text) (q .out-text)))
 
 pub put-out-spec : {M : Type 1} → statement M
 put-out-spec =

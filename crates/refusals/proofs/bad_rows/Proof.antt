@@ -2,16 +2,17 @@ use mathlib.Core.Path.{_≡_, refl}
 use Prim.Native.Nat.{_-_, _*_, _/_, _≤_}
 use native.Mathlib.Omega.{arith}
 use lib.ListN.{length, drop}
+use Rattle.grammar.specs.Numbers.{rowWidth}
 use Rattle.refusals.specs.Bytes.{anyFour, badRow}
 use Rattle.refusals.proofs.Fours.{any-found, any-passed, any-done}
 use Rattle.refusals.proofs.bad_rows.Statement.{statement}
 use Rattle.refusals.proofs.bad_rows.Tie as tie
 
 abbrev Inv-loop : tie.InvT-loop
-Inv-loop rows text marks first count i₀ i = (i ≤ length rows / 4) × (anyFour (badRow text) rows ≡ anyFour (badRow text) (drop (i * 4) rows))
+Inv-loop rows text marks first count i₀ i = (i ≤ length rows / rowWidth) × (anyFour (badRow text) rows ≡ anyFour (badRow text) (drop (i * rowWidth) rows))
 
 abbrev μ-loop : tie.MeasureT-loop
-μ-loop rows text marks first count i₀ i = length rows / 4 - i
+μ-loop rows text marks first count i₀ i = length rows / rowWidth - i
 
 loop-holds : tie.Need-loop-holds Inv-loop μ-loop
 loop-holds c = (omega arith, refl)

@@ -2,16 +2,17 @@ use mathlib.Core.Path.{_≡_, refl}
 use Prim.Native.Nat.{_-_, _*_, _/_, _≤_}
 use native.Mathlib.Omega.{arith}
 use lib.ListN.{length, drop}
+use Rattle.grammar.specs.Numbers.{ruleWidth}
 use Rattle.refusals.specs.Bytes.{anyFour, badName}
 use Rattle.refusals.proofs.Fours.{any-found, any-passed, any-done}
 use Rattle.refusals.proofs.bad_rules.Statement.{statement}
 use Rattle.refusals.proofs.bad_rules.Tie as tie
 
 abbrev Inv-loop : tie.InvT-loop
-Inv-loop rules text marks first count i₀ i = (i ≤ length rules / 4) × (anyFour (badName text) rules ≡ anyFour (badName text) (drop (i * 4) rules))
+Inv-loop rules text marks first count i₀ i = (i ≤ length rules / ruleWidth) × (anyFour (badName text) rules ≡ anyFour (badName text) (drop (i * ruleWidth) rules))
 
 abbrev μ-loop : tie.MeasureT-loop
-μ-loop rules text marks first count i₀ i = length rules / 4 - i
+μ-loop rules text marks first count i₀ i = length rules / ruleWidth - i
 
 loop-holds : tie.Need-loop-holds Inv-loop μ-loop
 loop-holds c = (omega arith, refl)

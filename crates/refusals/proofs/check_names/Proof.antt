@@ -2,9 +2,9 @@ use mathlib.Core.Path.{refl, sym, subst, _∙_}
 use mathlib.Core.Logic.{inl, inr}
 use borrow.Author.Tests.{not-true, not-false}
 use Rattle.rows.proofs.Cells.{tells-yes, tells-no}
-use Rattle.names.specs.Names.{Hashed, Ended}
+use Rattle.names.specs.Names.{AllIndexed, Ended}
 use Rattle.names.proofs.Marks.{ended}
-use Rattle.names.proofs.Index.{hashed-ends}
+use Rattle.names.proofs.Index.{index-ends}
 use Rattle.refusals.proofs.Apart.{indexed-fine, twice-not}
 use borrow.Author.Needs.{needs}
 use borrow.Author.Needs.{needs}
@@ -45,7 +45,7 @@ same-length-4 : tie.Need-same-length-4
 same-length-4 c = search needs
 
 returns-4 : tie.Need-returns-4
-returns-4 c = let z = c .before .before .before .before .before in let r = z .before .before in let h = r .before .before .before .before .index-names .ensures .yes (not-false _ (r .before .if1 .left)) in (indexed-fine h (tells-yes (not-false (r .none-reserved .result) (z .before .if2 .left)) (r .none-reserved .ensures)), sym (z .zero-counts .ensures) ∙ c .before .before .before .before .if3 .left, subst (Hashed _ _) (sym (c .before .before .mark-ends .ensures)) (hashed-ends _ _ _ h), subst (Ended _) (sym (c .before .before .mark-ends .ensures)) (ended _ _ (h .long)))
+returns-4 c = let z = c .before .before .before .before .before in let r = z .before .before in let h = r .before .before .before .before .index-names .ensures .yes (not-false _ (r .before .if1 .left)) in (indexed-fine h (tells-yes (not-false (r .none-reserved .result) (z .before .if2 .left)) (r .none-reserved .ensures)), sym (z .zero-counts .ensures) ∙ c .before .before .before .before .if3 .left, subst (AllIndexed _ _) (sym (c .before .before .mark-ends .ensures)) (index-ends _ _ _ h), subst (Ended _) (sym (c .before .before .mark-ends .ensures)) (ended _ _ (h .long)))
 
 pub check-names-spec : {M : Type 1} → statement M
 check-names-spec =

@@ -4,6 +4,7 @@ use Prim.Native.Nat.{ℕ, _-_, _/_, _≤_, _<_}
 use borrow.Author.Count.{below-none, below-more}
 use native.Mathlib.Omega.{arith}
 use lib.ListN.{length}
+use Rattle.grammar.specs.Numbers.{ruleWidth}
 use Rattle.grammar.specs.Basic.{member}
 use Rattle.grammar.specs.Refusals.{reserved}
 use Rattle.names.specs.Names.{nameOf}
@@ -11,10 +12,10 @@ use Rattle.refusals.proofs.none_reserved.Statement.{statement}
 use Rattle.refusals.proofs.none_reserved.Tie as tie
 
 abbrev Inv-loop : tie.InvT-loop
-Inv-loop rules text count i₀ i = (i ≤ length rules / 4) × ((j : ℕ) → j < i → member (nameOf rules text j) reserved ≡ false)
+Inv-loop rules text count i₀ i = (i ≤ length rules / ruleWidth) × ((j : ℕ) → j < i → member (nameOf rules text j) reserved ≡ false)
 
 abbrev μ-loop : tie.MeasureT-loop
-μ-loop rules text count i₀ i = length rules / 4 - i
+μ-loop rules text count i₀ i = length rules / ruleWidth - i
 
 loop-holds : tie.Need-loop-holds Inv-loop μ-loop
 loop-holds c = (omega arith, below-none _)

@@ -1,5 +1,6 @@
 use Prim.Native.Nat.{_+_, _-_, _*_}
 use native.Mathlib.Omega.{arith}
+use Rattle.grammar.specs.Numbers.{rowWidth}
 use Rattle.refusals.proofs.Tells.{one-tells}
 use borrow.Author.Needs.{needs}
 use Rattle.refusals.proofs.one_fits.Statement.{statement}
@@ -27,7 +28,7 @@ wide-requires : tie.Need-wide-requires
 wide-requires c κs = search needs
 
 add-result : tie.Need-add-result
-add-result c = omega (arith, c .wide .ensures, c .before .shared-slice-known2 .given ((c .before .before .before .before .args .i - 1) * 4 + 3))
+add-result c = omega (arith, c .wide .ensures, c .before .shared-slice-known2 .given ((c .before .before .before .before .args .i - 1) * rowWidth + 3))
 
 returns-2 : tie.Need-returns-2
 returns-2 c = one-tells _ _ _ _ (c .before .before .if1 .left) (c .wide .ensures)

@@ -4,6 +4,7 @@ use borrow.Author.Count.{below-none, below-more}
 use borrow.Author.Tests.{not-true, not-false}
 use native.Mathlib.Omega.{arith}
 use lib.ListN.{length}
+use Rattle.grammar.specs.Numbers.{rowWidth}
 use Rattle.rows.proofs.Cells.{tells-yes, tells-no}
 use Rattle.refusals.specs.Local.{RowFits}
 use Rattle.refusals.proofs.Piles.{of-tree, tree-tells}
@@ -11,13 +12,13 @@ use Rattle.refusals.proofs.one_tree.Statement.{statement}
 use Rattle.refusals.proofs.one_tree.Tie as tie
 
 abbrev Inv-loop : tie.InvT-loop
-Inv-loop rows most count i₀ i = (i ≤ length rows / 4) × ((j : ℕ) → j < i → RowFits most rows j)
+Inv-loop rows most count i₀ i = (i ≤ length rows / rowWidth) × ((j : ℕ) → j < i → RowFits most rows j)
 
 abbrev μ-loop : tie.MeasureT-loop
-μ-loop rows most count i₀ i = length rows / 4 - i
+μ-loop rows most count i₀ i = length rows / rowWidth - i
 
 returns : tie.Need-returns Inv-loop μ-loop
-returns c = λ t. let f = of-tree _ _ (c .before .before .pre .1) (length (c .before .before .args .rows .now) / 4) (omega arith) t in omega (arith, f .some-row)
+returns c = λ t. let f = of-tree _ _ (c .before .before .pre .1) (length (c .before .before .args .rows .now) / rowWidth) (omega arith) t in omega (arith, f .some-row)
 
 loop-holds : tie.Need-loop-holds Inv-loop μ-loop
 loop-holds c = (omega arith, below-none _)
@@ -26,7 +27,7 @@ row-fits-requires : tie.Need-row-fits-requires Inv-loop μ-loop
 row-fits-requires c κs = omega arith
 
 returns-2 : tie.Need-returns-2 Inv-loop μ-loop
-returns-2 c = λ t. let f = of-tree _ _ (c .before .before .before .before .before .before .pre .1) (length (c .before .before .before .before .before .before .args .rows .now) / 4) (omega arith) t in tells-no (not-true (c .before .row-fits .result) (c .if2 .taken)) (c .before .row-fits .ensures) (f .rows _ (c .before .before .loop-test .taken))
+returns-2 c = λ t. let f = of-tree _ _ (c .before .before .before .before .before .before .pre .1) (length (c .before .before .before .before .before .before .args .rows .now) / rowWidth) (omega arith) t in tells-no (not-true (c .before .row-fits .result) (c .if2 .taken)) (c .before .row-fits .ensures) (f .rows _ (c .before .before .loop-test .taken))
 
 add-i : tie.Need-add-i Inv-loop μ-loop
 add-i c = omega arith
@@ -58,7 +59,7 @@ wide-requires c κs = search needs
 returns-3 : tie.Need-returns-3 Inv-loop μ-loop
 returns-3 c =
     let s = c .before .before .before .before .before .before in
-    tree-tells _ _ (s .pre .1) (length (s .args .rows .now) / 4) (c .wide .result) (omega arith) (λ j h. c .before .before .before .loop .inv .1 j (omega arith)) (omega arith) (c .wide .ensures)
+    tree-tells _ _ (s .pre .1) (length (s .args .rows .now) / rowWidth) (c .wide .result) (omega arith) (λ j h. c .before .before .before .loop .inv .1 j (omega arith)) (omega arith) (c .wide .ensures)
 
 pub one-tree-spec : {M : Type 1} → statement M
 one-tree-spec =

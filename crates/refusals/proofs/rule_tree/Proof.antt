@@ -2,6 +2,7 @@ use mathlib.Core.Path.{_≡_}
 use Prim.Native.Nat.{_-_, _*_}
 use native.Mathlib.Omega.{arith}
 use borrow.Author.Needs.{needs}
+use Rattle.grammar.specs.Numbers.{rowWidth}
 use Rattle.refusals.proofs.rule_tree.Statement.{statement}
 use Rattle.refusals.proofs.rule_tree.Tie as tie
 
@@ -29,7 +30,7 @@ one-tree-requires c κs = search needs
 returns : tie.Need-returns
 returns c =
     let a = c .before .before .before .args in
-    let z : a .to * 4 - a .from * 4 ≡ 4 * (a .to - a .from) = omega arith in
+    let z : a .to * rowWidth - a .from * rowWidth ≡ rowWidth * (a .to - a .from) = omega arith in
     rw (← z) (c .one-tree .ensures)
 
 pub rule-tree-spec : {M : Type 1} → statement M

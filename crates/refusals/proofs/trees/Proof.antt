@@ -5,6 +5,7 @@ use borrow.Author.Tests.{not-true, not-false}
 use native.Mathlib.Omega.{arith}
 use lib.Dec.{eqb}
 use lib.ListN.{length, take, drop}
+use Rattle.grammar.specs.Numbers.{ruleWidth, rowWidth}
 use Rattle.rows.specs.Rows.{Tells}
 use Rattle.rows.proofs.Cells.{tells-yes, tells-no, tells-iff}
 use Rattle.refusals.specs.Local.{upTo, IsTree, IsTable}
@@ -14,15 +15,15 @@ use Rattle.refusals.proofs.trees.Tie as tie
 
 abbrev Inv-loop : tie.InvT-loop
 Inv-loop rules rows most count total i₀ from₀ i from =
-    (i ≤ length rules / 4) × (from ≤ length rows / 4)
-    × (IsTable (upTo most) rules rows → IsTable (upTo most) (drop (i * 4) rules) (drop (from * 4) rows))
-    × (IsTable (upTo most) (drop (i * 4) rules) (drop (from * 4) rows) → IsTable (upTo most) rules rows)
+    (i ≤ length rules / ruleWidth) × (from ≤ length rows / rowWidth)
+    × (IsTable (upTo most) rules rows → IsTable (upTo most) (drop (i * ruleWidth) rules) (drop (from * rowWidth) rows))
+    × (IsTable (upTo most) (drop (i * ruleWidth) rules) (drop (from * rowWidth) rows) → IsTable (upTo most) rules rows)
 
 abbrev μ-loop : tie.MeasureT-loop
-μ-loop rules rows most count total i₀ from₀ i from = length rules / 4 - i
+μ-loop rules rows most count total i₀ from₀ i from = length rules / ruleWidth - i
 
 -- what was asked of the rule's rows
-tree : (c : tie.After-rule-tree Inv-loop μ-loop) → let a = c .before .before .before .before .before .before .before .before .before .before .args in Tells (c .rule-tree .result) (IsTree (upTo (a .most)) (take (4 * c .before .before .wide .result) (drop (c .before .before .before .before .before .before .before .loop .from * 4) (a .rows .now))))
+tree : (c : tie.After-rule-tree Inv-loop μ-loop) → let a = c .before .before .before .before .before .before .before .before .before .before .args in Tells (c .rule-tree .result) (IsTree (upTo (a .most)) (take (rowWidth * c .before .before .wide .result) (drop (c .before .before .before .before .before .before .before .loop .from * rowWidth) (a .rows .now))))
 tree c = let a = c .before .before .before .before .before .before .before .before .before .before .args in between (upTo (a .most)) (a .rows .now) (c .before .before .before .before .before .before .before .loop .from) (c .before .before .wide .result) (c .rule-tree .result) (c .rule-tree .ensures)
 
 loop-holds : tie.Need-loop-holds Inv-loop μ-loop
@@ -90,7 +91,7 @@ loop-again c =
     )
 
 returns-4 : tie.Need-returns-4 Inv-loop μ-loop
-returns-4 c = let l = c .before .loop in let s = c .before .before .before .before .args in tells-iff (eqb (l .from) (length (s .rows .now) / 4)) (l .inv .3) (l .inv .2) (end-tells (upTo (s .most)) (s .rules .now) (s .rows .now) (l .i) (l .from) (length (s .rows .now) / 4) (omega arith) (omega arith) (omega arith))
+returns-4 c = let l = c .before .loop in let s = c .before .before .before .before .args in tells-iff (eqb (l .from) (length (s .rows .now) / rowWidth)) (l .inv .3) (l .inv .2) (end-tells (upTo (s .most)) (s .rules .now) (s .rows .now) (l .i) (l .from) (length (s .rows .now) / rowWidth) (omega arith) (omega arith) (omega arith))
 
 pub trees-spec : {M : Type 1} → statement M
 trees-spec =

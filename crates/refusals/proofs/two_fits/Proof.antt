@@ -3,17 +3,18 @@ use native.Mathlib.Omega.{arith}
 use mir.Syntax.{w32}
 use mir.Val.{Fits}
 use lib.ListN.{getD}
+use Rattle.grammar.specs.Numbers.{rowWidth}
 use Rattle.refusals.proofs.Tells.{two-no, two-tells}
 use borrow.Author.Needs.{needs}
 use Rattle.refusals.proofs.two_fits.Statement.{statement}
 use Rattle.refusals.proofs.two_fits.Tie as tie
 
 -- the two sizes are words
-right-fits : (c : tie.After-wide2) → Fits w32 (getD (c .before .before .before .before .before .before .before .args .rows .now) ((c .before .before .before .before .before .before .before .args .i - 1) * 4 + 3) 0)
-right-fits c = c .before .before .before .before .shared-slice-known2 .given ((c .before .before .before .before .before .before .before .args .i - 1) * 4 + 3)
+right-fits : (c : tie.After-wide2) → Fits w32 (getD (c .before .before .before .before .before .before .before .args .rows .now) ((c .before .before .before .before .before .before .before .args .i - 1) * rowWidth + 3) 0)
+right-fits c = c .before .before .before .before .shared-slice-known2 .given ((c .before .before .before .before .before .before .before .args .i - 1) * rowWidth + 3)
 
-left-fits : (c : tie.After-wide2) → Fits w32 (getD (c .before .before .before .before .before .before .before .args .rows .now) ((c .before .before .before .before .before .before .before .args .i - 1 - c .before .before .before .wide .result) * 4 + 3) 0)
-left-fits c = c .before .shared-slice-known3 .given ((c .before .before .before .before .before .before .before .args .i - 1 - c .before .before .before .wide .result) * 4 + 3)
+left-fits : (c : tie.After-wide2) → Fits w32 (getD (c .before .before .before .before .before .before .before .args .rows .now) ((c .before .before .before .before .before .before .before .args .i - 1 - c .before .before .before .wide .result) * rowWidth + 3) 0)
+left-fits c = c .before .shared-slice-known3 .given ((c .before .before .before .before .before .before .before .args .i - 1 - c .before .before .before .wide .result) * rowWidth + 3)
 
 returns : tie.Need-returns
 returns c = search needs

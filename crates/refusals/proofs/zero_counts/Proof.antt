@@ -3,16 +3,17 @@ use Prim.Native.Nat.{_-_, _*_, _/_, _≤_}
 use borrow.Author.Needs.{needs}
 use native.Mathlib.Omega.{arith}
 use lib.ListN.{length, drop}
+use Rattle.grammar.specs.Numbers.{rowWidth}
 use Rattle.refusals.specs.Bytes.{anyFour, zeroRow}
 use Rattle.refusals.proofs.Fours.{any-found, any-passed, any-done}
 use Rattle.refusals.proofs.zero_counts.Statement.{statement}
 use Rattle.refusals.proofs.zero_counts.Tie as tie
 
 abbrev Inv-loop : tie.InvT-loop
-Inv-loop rows count i₀ i = (i ≤ length rows / 4) × (anyFour zeroRow rows ≡ anyFour zeroRow (drop (i * 4) rows))
+Inv-loop rows count i₀ i = (i ≤ length rows / rowWidth) × (anyFour zeroRow rows ≡ anyFour zeroRow (drop (i * rowWidth) rows))
 
 abbrev μ-loop : tie.MeasureT-loop
-μ-loop rows count i₀ i = length rows / 4 - i
+μ-loop rows count i₀ i = length rows / rowWidth - i
 
 loop-holds : tie.Need-loop-holds Inv-loop μ-loop
 loop-holds c = (omega arith, refl)

@@ -3,6 +3,7 @@ use mathlib.Core.Path.{_∙_}
 use Prim.Native.Nat.{_+_, _*_, _/_}
 use native.Mathlib.Omega.{arith}
 use lib.ListN.{length}
+use Rattle.grammar.specs.Numbers.{rowWidth}
 use Rattle.restorer.specs.Stacks.{unseen}
 use Rattle.restorer.proofs.Marks.{rule-there, rule-at, rule-most, rule-tree}
 use Rattle.restorer.proofs.Looks.{look-room, look-less, look-opens, look-within, look-ran, look-left, look-says}
@@ -26,10 +27,10 @@ use Rattle.restorer.proofs.+look+walk.{statement}
 use Rattle.restorer.proofs.+look+walk.Tie.{close}
 
 abbrev μ-look : Measures 5 look-kinds.ps ℕ
-μ-look κs a = unseen (length (a .0 .now) / 4) (a .1 .1 .1 .0 .now) * 2
+μ-look κs a = unseen (length (a .0 .now) / rowWidth) (a .1 .1 .1 .0 .now) * 2
 
 abbrev μ-walk : Measures 5 walk-kinds.ps ℕ
-μ-walk κs a = unseen (length (a .0 .now) / 4) (a .1 .1 .1 .0 .now) * 2 + 1
+μ-walk κs a = unseen (length (a .0 .now) / rowWidth) (a .1 .1 .1 .0 .now) * 2 + 1
 
 abbrev look-at : ℕ → In 5 look-kinds.ps
 look-at t = and 5 look-kinds.ps (is 5 look-kinds.ps μ-look t) look.Pre
@@ -58,8 +59,11 @@ look-add-wide t c = let s = c .before .before .before .before .before in omega (
 look-mul-wide : (t : ℕ) → look-lts.Need-mul-wide (calls-look t) (look-at t) look.Post
 look-mul-wide t c = let s = c .before .before .before .before .before in omega (arith, s .pre .1 .1 .0, s .pre .1 .0 .few)
 
+look-mul-wide-2 : (t : ℕ) → look-lts.Need-mul-wide-2 (calls-look t) (look-at t) look.Post
+look-mul-wide-2 t c = let s = c .before .before .before .before .before in omega (arith, s .pre .1 .1 .0, s .pre .1 .0 .few)
+
 look-slice-read-wide : (t : ℕ) → look-lts.Need-slice-read-wide (calls-look t) (look-at t) look.Post
-look-slice-read-wide t c = let s = c .before .before .before .before .before .before in omega (arith, s .pre .1 .1 .0, s .pre .1 .0 .given .marked .hashed .long)
+look-slice-read-wide t c = let s = c .before .before .before .before .before .before in omega (arith, s .pre .1 .1 .0, s .pre .1 .0 .given .marked .index .long)
 
 look-wide-requires : (t : ℕ) → look-lts.Need-wide-requires (calls-look t) (look-at t) look.Post
 look-wide-requires t c κs = search needs
@@ -67,16 +71,26 @@ look-wide-requires t c κs = search needs
 look-enter-requires : (t : ℕ) → look-lts.Need-enter-requires (calls-look t) (look-at t) look.Post
 look-enter-requires t c κs = let s = c .before .before .before .before .before .before .before .before .before in
     let r = look-room (s .pre .1 .0) (s .pre .1 .1 .0) (s .pre .1 .1 .1) in
-    let g = s .pre .1 .0 in ((omega (arith, s .pre .1 .1 .0, g .given .marked .hashed .long), omega (arith, s .pre .1 .1 .0, g .few)), (omega (arith, r, g .long), omega (arith, r, g .few)))
+    let g = s .pre .1 .0 in ((omega (arith, s .pre .1 .1 .0, g .given .marked .index .long), omega (arith, s .pre .1 .1 .0, g .few)), (omega (arith, r, g .long), omega (arith, r, g .few)))
+
+-- the points that are looked back to
+abbrev look-slice-known4-to-start : (t : ℕ) → look-lts.After-slice-known4 (calls-look t) (look-at t) look.Post → look-lts.Start (calls-look t) (look-at t) look.Post
+look-slice-known4-to-start t c = c .before .before .before .before .before .before .before .before .before .before .before .before
+
+abbrev look-walk-arg2-to-start : (t : ℕ) → look-lts.After-walk-arg2 (calls-look t) (look-at t) look.Post → look-lts.Start (calls-look t) (look-at t) look.Post
+look-walk-arg2-to-start t c = look-slice-known4-to-start t (c .before .before .before .before)
 
 look-add-wide-2 : (t : ℕ) → look-lts.Need-add-wide-2 (calls-look t) (look-at t) look.Post
-look-add-wide-2 t c = let s = c .before .before .before .before .before .before .before .before .before .before .before .before .before .before .before .before in omega (arith, s .pre .1 .1 .0, s .pre .1 .0 .few)
+look-add-wide-2 t c = let s = (look-walk-arg2-to-start t c) in omega (arith, s .pre .1 .1 .0, s .pre .1 .0 .few)
 
-look-mul-wide-2 : (t : ℕ) → look-lts.Need-mul-wide-2 (calls-look t) (look-at t) look.Post
-look-mul-wide-2 t c = let s = c .before .before .before .before .before .before .before .before .before .before .before .before .before .before .before .before in omega (arith, s .pre .1 .1 .0, s .pre .1 .0 .few)
+look-mul-wide-3 : (t : ℕ) → look-lts.Need-mul-wide-3 (calls-look t) (look-at t) look.Post
+look-mul-wide-3 t c = let s = (look-walk-arg2-to-start t c) in omega (arith, s .pre .1 .1 .0, s .pre .1 .0 .few)
+
+abbrev look-shared-slice-known4-to-start : (t : ℕ) → look-lts.After-shared-slice-known4 (calls-look t) (look-at t) look.Post → look-lts.Start (calls-look t) (look-at t) look.Post
+look-shared-slice-known4-to-start t c = look-slice-known4-to-start t (c .before .before .before .before .before)
 
 look-shared-slice-read-wide : (t : ℕ) → look-lts.Need-shared-slice-read-wide (calls-look t) (look-at t) look.Post
-look-shared-slice-read-wide t c = let s = c .before .before .before .before .before .before .before .before .before .before .before .before .before .before .before .before .before in omega (arith, s .pre .1 .1 .0)
+look-shared-slice-read-wide t c = let s = (look-shared-slice-known4-to-start t c) in omega (arith, s .pre .1 .1 .0)
 
 look-wide-requires-2 : (t : ℕ) → look-lts.Need-wide-requires-2 (calls-look t) (look-at t) look.Post
 look-wide-requires-2 t c κs = search needs
@@ -86,8 +100,11 @@ look-sub-walk t c = let at-wide = c .before .before .before .before .before .bef
     let s = at-wide .before .before .before .before .before .before .before in
     let g = s .pre .1 .0 .given in rule-most (g .marked .lent) (s .args .marks .now) (s .args .i) (rule-there (g .marked .lent) (s .args .i) (s .pre .1 .1 .0)) (s .pre .1 .1 .0) (g .ended) _ _ (at-wide .wide .ensures) (c .wide2 .ensures)
 
+abbrev look-wide2-to-start : (t : ℕ) → look-lts.After-wide2 (calls-look t) (look-at t) look.Post → look-lts.Start (calls-look t) (look-at t) look.Post
+look-wide2-to-start t c = look-slice-known4-to-start t (c .before .before .before .before .before .before)
+
 look-add-walk : (t : ℕ) → look-lts.Need-add-walk (calls-look t) (look-at t) look.Post
-look-add-walk t c = let s = c .before .before .before .before .before .before .before .before .before .before .before .before .before .before .before .before .before .before in omega (arith, look-room (s .pre .1 .0) (s .pre .1 .1 .0) (s .pre .1 .1 .1), s .pre .1 .0 .few)
+look-add-walk t c = let s = (look-wide2-to-start t c) in omega (arith, look-room (s .pre .1 .0) (s .pre .1 .1 .0) (s .pre .1 .1 .1), s .pre .1 .0 .few)
 
 look-walk-requires : (t : ℕ) → look-lts.Need-walk-requires (calls-look t) (look-at t) look.Post
 look-walk-requires t c κs = let at-enter = c .before .before .before .before .before .before .before .before in
@@ -232,14 +249,23 @@ walk-returns-2 t c = let at-h = c .before in
 walk-enum-known-l : (t : ℕ) → walk-lts.Need-enum-known-l (calls-walk t) (walk-at t) walk.Post walk-Inv-loop walk-μ-loop
 walk-enum-known-l t c = search needs
 
+abbrev walk-slice-known4-to-loop : (t : ℕ) → walk-lts.After-slice-known4 (calls-walk t) (walk-at t) walk.Post walk-Inv-loop walk-μ-loop → walk-lts.In-loop (calls-walk t) (walk-at t) walk.Post walk-Inv-loop walk-μ-loop
+walk-slice-known4-to-loop t c = c .before .before .before .before .before .before .before .before .before .before .before .before
+
+abbrev walk-known-told4-to-loop : (t : ℕ) → walk-lts.After-known-told4 (calls-walk t) (walk-at t) walk.Post walk-Inv-loop walk-μ-loop → walk-lts.In-loop (calls-walk t) (walk-at t) walk.Post walk-Inv-loop walk-μ-loop
+walk-known-told4-to-loop t c = walk-slice-known4-to-loop t (c .before .before .before)
+
 walk-sub-i : (t : ℕ) → walk-lts.Need-sub-i (calls-walk t) (walk-at t) walk.Post walk-Inv-loop walk-μ-loop
-walk-sub-i t c = omega (arith, c .before .before .before .before .before .before .before .before .before .before .before .before .before .before .before .loop-test .taken)
+walk-sub-i t c = omega (arith, (walk-known-told4-to-loop t c) .loop-test .taken)
 
 walk-least-requires-2 : (t : ℕ) → walk-lts.Need-least-requires-2 (calls-walk t) (walk-at t) walk.Post walk-Inv-loop walk-μ-loop
 walk-least-requires-2 t c κs = search needs
 
+abbrev walk-least2-to-loop : (t : ℕ) → walk-lts.After-least2 (calls-walk t) (walk-at t) walk.Post walk-Inv-loop walk-μ-loop → walk-lts.In-loop (calls-walk t) (walk-at t) walk.Post walk-Inv-loop walk-μ-loop
+walk-least2-to-loop t c = walk-slice-known4-to-loop t (c .before .before .before .before)
+
 walk-loop-less-2 : (t : ℕ) → walk-lts.Need-loop-less-2 (calls-walk t) (walk-at t) walk.Post walk-Inv-loop walk-μ-loop
-walk-loop-less-2 t c = omega (arith, c .before .before .before .before .before .before .before .before .before .before .before .before .before .before .before .before .loop-test .taken)
+walk-loop-less-2 t c = omega (arith, (walk-least2-to-loop t c) .loop-test .taken)
 
 walk-loop-again-2 : (t : ℕ) → walk-lts.Need-loop-again-2 (calls-walk t) (walk-at t) walk.Post walk-Inv-loop walk-μ-loop
 walk-loop-again-2 t c = let at-l = c .before .before in
@@ -262,60 +288,7 @@ walk-returns-3 : (t : ℕ) → walk-lts.Need-returns-3 (calls-walk t) (walk-at t
 walk-returns-3 t c = (c .before .loop .inv .ran, walk-end (c .before .loop .inv) (c .loop-test .left))
 
 pub +look+walk-spec : {M : Type 1} → statement M
-+look+walk-spec = close μ-look μ-walk (λ t. look-lts.spec (calls-look t)
-    (look-at t)
-    look.Post
-    (look-mul-at t)
-    (look-add-wide t)
-    (look-mul-wide t)
-    (look-slice-read-wide t)
-    (look-wide-requires t)
-    (look-enter-requires t)
-    (look-add-wide-2 t)
-    (look-mul-wide-2 t)
-    (look-shared-slice-read-wide t)
-    (look-wide-requires-2 t)
-    (look-sub-walk t)
-    (look-add-walk t)
-    (look-walk-requires t)
-    (look-leave-requires t)
-    (look-same-length t)
-    (look-same-length-2 t)
-    (look-returns t))
-    λ t. walk-lts.spec (
-      visit-reads.Asked,
-      visit-reads.Learnt,
-      least-reads.Asked,
-      least-reads.Learnt,
-      look-below t,
-      look.Post,
-    )
-    (walk-at t)
-    walk.Post
-    walk-Inv-loop
-    walk-μ-loop
-    (walk-loop-holds t)
-    (walk-sub-visit t)
-    (walk-visit-requires t)
-    (walk-enum-told t)
-    (walk-same-length t)
-    (walk-same-length-2 t)
-    (walk-returns t)
-    (walk-enum-known-j t)
-    (walk-least-requires t)
-    (walk-loop-less t)
-    (walk-loop-again t)
-    (walk-enum-known-k t)
-    (walk-look-requires t)
-    (walk-enum-known-h t)
-    (walk-same-length-3 t)
-    (walk-same-length-4 t)
-    (walk-returns-2 t)
-    (walk-enum-known-l t)
-    (walk-sub-i t)
-    (walk-least-requires-2 t)
-    (walk-loop-less-2 t)
-    (walk-loop-again-2 t)
-    (walk-same-length-5 t)
-    (walk-same-length-6 t)
-    (walk-returns-3 t)
++look+walk-spec =
+    close μ-look μ-walk
+    (λ t. let calls = calls-look t in look-lts.spec calls (look-at t) look.Post (look-mul-at t) (look-mul-wide t) (look-add-wide t) (look-mul-wide-2 t) (look-slice-read-wide t) (look-wide-requires t) (look-enter-requires t) (look-add-wide-2 t) (look-mul-wide-3 t) (look-shared-slice-read-wide t) (look-wide-requires-2 t) (look-sub-walk t) (look-add-walk t) (look-walk-requires t) (look-leave-requires t) (look-same-length t) (look-same-length-2 t) (look-returns t))
+    (λ t. let calls = calls-walk t in walk-lts.spec calls (walk-at t) walk.Post walk-Inv-loop walk-μ-loop (walk-loop-holds t) (walk-sub-visit t) (walk-visit-requires t) (walk-enum-told t) (walk-same-length t) (walk-same-length-2 t) (walk-returns t) (walk-enum-known-j t) (walk-least-requires t) (walk-loop-less t) (walk-loop-again t) (walk-enum-known-k t) (walk-look-requires t) (walk-enum-known-h t) (walk-same-length-3 t) (walk-same-length-4 t) (walk-returns-2 t) (walk-enum-known-l t) (walk-sub-i t) (walk-least-requires-2 t) (walk-loop-less-2 t) (walk-loop-again-2 t) (walk-same-length-5 t) (walk-same-length-6 t) (walk-returns-3 t))

@@ -1,9 +1,12 @@
 -- The literal is written, and what shows is what its name says. Assumes nothing.
 use native.Mathlib.Omega.{arith}
-use Rattle.restorer.proofs.Restores.{lit-full, lit-plain, lit-name}
+use Rattle.restorer.proofs.Restores.{lit-told}
 use borrow.Author.Needs.{needs}
 use Rattle.restorer.proofs.literal.Statement.{statement}
 use Rattle.restorer.proofs.literal.Tie as tie
+
+abbrev start : tie.After-put-lit → tie.Start
+start c = c .before .before .before .before .before .before .before .before .before .before
 
 wide-requires : tie.Need-wide-requires
 wide-requires c κs = search needs
@@ -14,11 +17,11 @@ wide-requires-2 c κs = search needs
 put-lit-requires : tie.Need-put-lit-requires
 put-lit-requires c κs = let s = c .before .before .before .before .before .before .before .before .before in (omega (arith, s .pre .1 .0, c .before .before .wide2 .ensures, c .before .before .before .wide .ensures), s .pre .1 .1)
 
-enum-known-q : tie.Need-enum-known-q
-enum-known-q c = search needs
+stirs-requires : tie.Need-stirs-requires
+stirs-requires c κs = let s = start (c .before .before .before .before) in (s .pre .0, omega (arith, s .pre .1 .0, c .before .before .before .before .before .before .before .wide2 .ensures, c .before .before .before .before .before .before .before .before .wide .ensures))
 
-enum-told : tie.Need-enum-told
-enum-told c = search needs
+told-requires : tie.Need-told-requires
+told-requires c κs = search needs
 
 same-length : tie.Need-same-length
 same-length c = search needs
@@ -27,45 +30,7 @@ same-length-2 : tie.Need-same-length-2
 same-length-2 c = search needs
 
 returns : tie.Need-returns
-returns c = λ u j su h. lit-full _ _ _ j _ _ _ _ _ (c .before .before .before .before .before .before .before .before .before .before .wide .ensures) (c .before .before .before .before .before .before .before .before .before .wide2 .ensures) h (c .before .before .before .before .before .before .put-lit .ensures) (c .enum-told .given .1)
-
-same-length-3 : tie.Need-same-length-3
-same-length-3 c = search needs
-
-same-length-4 : tie.Need-same-length-4
-same-length-4 c = search needs
-
-returns-2 : tie.Need-returns-2
-returns-2 c = λ u j su h. lit-plain _ _ _ j _ _ _ _ _ (c .before .before .before .before .before .before .before .before .before .before .before .before .wide .ensures) (c .before .before .before .before .before .before .before .before .before .before .before .wide2 .ensures) h (c .before .before .before .before .before .before .before .before .put-lit .ensures) (c .before .before .q .given .1) u (c .if1 .taken)
-
-through-requires : tie.Need-through-requires
-through-requires c κs = let s = c .before .before .before .before .before .before .before .before .before .before .before .before .before .before .before .before .before .before in (s .pre .0, omega (arith, s .pre .1 .0, c .before .before .before .before .before .before .before .before .before .before .before .wide2 .ensures, c .before .before .before .before .before .before .before .before .before .before .before .before .wide .ensures))
-
-same-length-5 : tie.Need-same-length-5
-same-length-5 c = search needs
-
-same-length-6 : tie.Need-same-length-6
-same-length-6 c = search needs
-
-returns-3 : tie.Need-returns-3
-returns-3 c = λ u j su h. lit-name _ _ _ j _ _ _ _ _ (c .before .before .before .before .before .before .before .before .before .before .before .before .before .wide .ensures) (c .before .before .before .before .before .before .before .before .before .before .before .before .wide2 .ensures) h (c .before .before .before .before .before .before .before .before .before .put-lit .ensures) (c .before .before .before .q .given .1) u _ (c .before .if1 .left) (c .through .ensures u su)
+returns c = λ u j su h. lit-told (c .before .before .before .before .before .before .put-lit .result) _ _ j _ _ _ _ _ (c .before .before .before .before .before .before .before .before .before .before .wide .ensures) (c .before .before .before .before .before .before .before .before .before .wide2 .ensures) h (c .before .before .before .before .before .before .put-lit .ensures) (c .before .stirs .result) u (c .told .ensures) (c .before .stirs .ensures u j su h)
 
 pub literal-spec : {M : Type 1} → statement M
-literal-spec =
-    tie.close
-    (tie.spec
-    wide-requires
-    wide-requires-2
-    put-lit-requires
-    enum-known-q
-    enum-told
-    same-length
-    same-length-2
-    returns
-    same-length-3
-    same-length-4
-    returns-2
-    through-requires
-    same-length-5
-    same-length-6
-    returns-3)
+literal-spec = tie.close (tie.spec wide-requires wide-requires-2 put-lit-requires stirs-requires told-requires same-length same-length-2 returns)

@@ -1,5 +1,7 @@
 -- The words of a name's row say where it stands. Assumes nothing.
+use mathlib.Core.Path.{refl}
 use native.Mathlib.Omega.{arith}
+use Rattle.grammar.specs.Tree.{Ident}
 use Rattle.rows.specs.Rows.{xAt, yAt}
 use Rattle.restorer.proofs.Stills.{ident-shape, same-name}
 use borrow.Author.Needs.{needs}
@@ -35,7 +37,7 @@ wide-requires-2 c κs = search needs
 
 through-requires : tie.Need-through-requires
 unfolding xAt yAt
-through-requires c κs = let s = c .before .before .before .before .before .before .before .before in (s .pre .0 .hashed, omega (arith, s .pre .0 .inside _ (s .pre .1 .0) (ident-shape (s .pre .1 .1)), c .wide2 .ensures, c .before .before .wide .ensures))
+through-requires c κs = let s = c .before .before .before .before .before .before .before .before in (s .pre .0 .index, omega (arith, s .pre .0 .inside _ (s .pre .1 .0) (ident-shape (s .pre .1 .1)), c .wide2 .ensures, c .before .before .wide .ensures))
 
 returns : tie.Need-returns
 unfolding xAt yAt

@@ -45,7 +45,7 @@ returns c = let s = c .before .before .before .before .before .before .before .b
 
 find-rule-requires : tie.Need-find-rule-requires
 unfolding xAt yAt
-find-rule-requires c κs = let s = c .before .before .before .before .before .before .before .before .before .before in (s .pre .0 .marked .hashed, omega (arith, s .pre .0 .marked .inside _ (s .pre .1 .0) (ident-shape (s .pre .1 .1)), c .before .before .wide2 .ensures, c .before .before .before .before .wide .ensures))
+find-rule-requires c κs = let s = c .before .before .before .before .before .before .before .before .before .before in (s .pre .0 .marked .index, omega (arith, s .pre .0 .marked .inside _ (s .pre .1 .0) (ident-shape (s .pre .1 .1)), c .before .before .wide2 .ensures, c .before .before .before .before .wide .ensures))
 
 enum-known-k : tie.Need-enum-known-k
 enum-known-k c = search needs
@@ -53,16 +53,32 @@ enum-known-k c = search needs
 enum-told : tie.Need-enum-told
 enum-told c = search needs
 
+-- the points that are looked back to
+abbrev match-keys2-to-start : tie.At-match-keys2 → tie.Start
+match-keys2-to-start c = c .before .before .before .before .before .before .before .before .before .before .before .before
+
+abbrev enum-told-to-start : tie.After-enum-told → tie.Start
+enum-told-to-start c = match-keys2-to-start (c .before)
+
 returns-2 : tie.Need-returns-2
 unfolding xAt yAt
-returns-2 c = let s = c .before .before .before .before .before .before .before .before .before .before .before .before .before in (tt, (ident-goes (words-at _ _ (s .pre .1 .0)) (s .pre .1 .1), λ u r l b h. ident-nothing (words-at _ _ (s .pre .1 .0)) (s .pre .1 .1) _ u l _ _ _ r (c .before .before .before .before .before .before .before .wide .ensures) (c .before .before .before .before .before .wide2 .ensures) (c .before .before .before .before .changes-stack .ensures) (c .before .before .before .if1 .left) (c .before .before .find-rule .ensures) b (c .enum-told .given .1) h))
+returns-2 c = let s = (enum-told-to-start c) in (tt, (ident-goes (words-at _ _ (s .pre .1 .0)) (s .pre .1 .1), λ u r l b h. ident-nothing (words-at _ _ (s .pre .1 .0)) (s .pre .1 .1) _ u l _ _ _ r (c .before .before .before .before .before .before .before .wide .ensures) (c .before .before .before .before .before .wide2 .ensures) (c .before .before .before .before .changes-stack .ensures) (c .before .before .before .if1 .left) (c .before .before .find-rule .ensures) b (c .enum-told .given .1) h))
+
+abbrev match-keys1-to-start : tie.At-match-keys1 → tie.Start
+match-keys1-to-start c = c .before .before .before .before .before .before .before .before .before .before .before .before
+
+abbrev known-told-to-start : tie.After-known-told → tie.Start
+known-told-to-start c = match-keys1-to-start (c .before .before)
 
 recall-requires : tie.Need-recall-requires
-recall-requires c κs = let s = c .before .before .before .before .before .before .before .before .before .before .before .before .before .before in omega (arith, s .pre .0 .marked .hashed .long, finds-below _ _ _ _ _ (c .before .before .before .find-rule .ensures) (c .before .k .given .1))
+recall-requires c κs = let s = (known-told-to-start c) in omega (arith, s .pre .0 .marked .index .long, finds-below _ _ _ _ _ (c .before .before .before .find-rule .ensures) (c .before .k .given .1))
+
+abbrev recall-to-start : tie.After-recall → tie.Start
+recall-to-start c = match-keys1-to-start (c .before .before .before)
 
 returns-3 : tie.Need-returns-3
 unfolding xAt yAt
-returns-3 c = let s = c .before .before .before .before .before .before .before .before .before .before .before .before .before .before .before in let k = finds-below _ _ _ _ _ (c .before .before .before .before .find-rule .ensures) (c .before .before .k .given .1) in (asks-unseen _ _ _ _ _ k (c .recall .ensures), (asks-goes (words-at _ _ (s .pre .1 .0)) (s .pre .1 .1) _ _ _ (c .recall .ensures), λ u r l b h. ident-asks (words-at _ _ (s .pre .1 .0)) (s .pre .1 .1) _ u l _ _ _ r (c .before .before .before .before .before .before .before .before .before .wide .ensures) (c .before .before .before .before .before .before .before .wide2 .ensures) (c .before .before .before .before .before .before .changes-stack .ensures) (c .before .before .before .before .before .if1 .left) (c .before .before .before .before .find-rule .ensures) b (c .before .before .k .given .1) (below-resolved l _ _ k) h _ (c .recall .ensures)))
+returns-3 c = let s = (recall-to-start c) in let k = finds-below _ _ _ _ _ (c .before .before .before .before .find-rule .ensures) (c .before .before .k .given .1) in (asks-unseen _ _ _ _ _ k (c .recall .ensures), (asks-goes (words-at _ _ (s .pre .1 .0)) (s .pre .1 .1) _ _ _ (c .recall .ensures), λ u r l b h. ident-asks (words-at _ _ (s .pre .1 .0)) (s .pre .1 .1) _ u l _ _ _ r (c .before .before .before .before .before .before .before .before .before .wide .ensures) (c .before .before .before .before .before .before .before .wide2 .ensures) (c .before .before .before .before .before .before .changes-stack .ensures) (c .before .before .before .before .before .if1 .left) (c .before .before .before .before .find-rule .ensures) b (c .before .before .k .given .1) (below-resolved l _ _ k) h _ (c .recall .ensures)))
 
 pub named-spec : {M : Type 1} → statement M
 named-spec =

@@ -1,7 +1,6 @@
 -- The row's size is what stands between the places, and itself. Assumes nothing.
 use mathlib.Core.Path.{refl}
-use Rattle.writing.proofs.Puts.{row-full}
-use Rattle.restorer.proofs.Restores.{node-put}
+use Rattle.restorer.proofs.Restores.{node-told}
 use borrow.Author.Needs.{needs}
 use Rattle.restorer.proofs.node.Statement.{statement}
 use Rattle.restorer.proofs.node.Tie as tie
@@ -18,39 +17,17 @@ cast-put-row c = search needs
 put-row-requires : tie.Need-put-row-requires
 put-row-requires c κs = search needs
 
-enum-known-s : tie.Need-enum-known-s
-enum-known-s c = search needs
+shows-requires : tie.Need-shows-requires
+shows-requires c κs = search needs
 
-enum-told : tie.Need-enum-told
-enum-told c = search needs
+told-requires : tie.Need-told-requires
+told-requires c κs = search needs
 
 same-length : tie.Need-same-length
 same-length c = search needs
 
 returns : tie.Need-returns
-returns c = row-full _ _ _ _ _ (c .enum-told .given .1) (c .before .before .before .before .put-row .ensures)
-
-shows-requires : tie.Need-shows-requires
-shows-requires c κs = search needs
-
-same-length-2 : tie.Need-same-length-2
-same-length-2 c = search needs
-
-returns-2 : tie.Need-returns-2
-returns-2 c = node-put _ _ _ _ _ _ _ (c .before .before .s .given .1) (c .before .before .before .before .before .before .put-row .ensures) refl (c .shows .ensures)
+returns c = node-told (c .before .before .before .before .put-row .result) (c .before .shows .result) _ _ _ _ _ _ _ (c .told .ensures) (c .before .before .before .before .put-row .ensures) refl (c .before .shows .ensures)
 
 pub node-spec : {M : Type 1} → statement M
-node-spec =
-    tie.close
-    (tie.spec
-    sub-n
-    add-n
-    cast-put-row
-    put-row-requires
-    enum-known-s
-    enum-told
-    same-length
-    returns
-    shows-requires
-    same-length-2
-    returns-2)
+node-spec = tie.close (tie.spec sub-n add-n cast-put-row put-row-requires shows-requires told-requires same-length returns)

@@ -4,6 +4,7 @@ use Rattle.restorer.specs.Walks.{recalled}
 use borrow.Author.Needs.{needs}
 use Rattle.restorer.proofs.recall.Statement.{statement}
 use Rattle.restorer.proofs.recall.Tie as tie
+use Rattle.restorer.specs.Search.{OPEN}
 
 mul-state : tie.Need-mul-state
 mul-state c = search needs
@@ -27,14 +28,14 @@ returns-2 c = simp (ne-eqb _ _ (c .before .if1 .left), eq-eqb _ _ (c .if2 .taken
 
 returns-3 : tie.Need-returns-3
 unfolding recalled
-returns-3 c = simp (ne-eqb _ _ (c .before .before .if1 .left), ne-eqb _ _ (c .before .if2 .left), lt-leb 4 _ (c .if3 .taken))
+returns-3 c = simp (ne-eqb _ _ (c .before .before .if1 .left), ne-eqb _ _ (c .before .if2 .left), lt-leb OPEN _ (c .if3 .taken))
 
 wide-requires : tie.Need-wide-requires
 wide-requires c κs = search needs
 
 returns-4 : tie.Need-returns-4
 unfolding recalled
-returns-4 c = simp (ne-eqb _ _ (c .before .before .before .if1 .left), ne-eqb _ _ (c .before .before .if2 .left), le-leb 4 _ (c .before .if3 .left), c .wide .ensures)
+returns-4 c = simp (ne-eqb _ _ (c .before .before .before .if1 .left), ne-eqb _ _ (c .before .before .if2 .left), le-leb OPEN _ (c .before .if3 .left), c .wide .ensures)
 
 pub recall-spec : {M : Type 1} → statement M
 recall-spec =

@@ -1,12 +1,15 @@
 -- A tree through which the stack cannot change is copied; of another the settled marks say what shows of a name, and the walk does the rest. Assumes nothing.
 use Rattle.grammar.specs.Table.{resolveTable}
 use Rattle.restorer.proofs.Showing.{sure, known}
-use Rattle.restorer.proofs.Restores.{no-room, wrote-done}
+use Rattle.restorer.proofs.Restores.{wrote-answer}
 use Rattle.restorer.proofs.Climbs.{unguarded}
 use Rattle.restorer.proofs.Stills.{answer-still}
 use borrow.Author.Needs.{needs}
 use Rattle.restorer.proofs.restore.Statement.{statement}
 use Rattle.restorer.proofs.restore.Tie as tie
+
+abbrev start : tie.After-put → tie.Start
+start c = c .before .before .before .before .before .before .before .before .before .before .before
 
 stays-requires : tie.Need-stays-requires
 stays-requires c κs = let s = c .before .before .before .before .before .before in (s .pre .0, (s .pre .1 .0, s .pre .1 .1 .0))
@@ -26,11 +29,8 @@ returns c = λ u r l a. answer-still (c .before .before .before .before .copy .r
 put-requires : tie.Need-put-requires
 put-requires c κs = let s = c .before .before .before .before .before .before .before .before .before .before in (known (s .pre .0) (s .pre .1 .0), s .pre .1 .1)
 
-enum-known-q : tie.Need-enum-known-q
-enum-known-q c = search needs
-
-enum-told : tie.Need-enum-told
-enum-told c = search needs
+written-requires : tie.Need-written-requires
+written-requires c κs = search needs
 
 same-length-3 : tie.Need-same-length-3
 same-length-3 c = search needs
@@ -39,32 +39,10 @@ same-length-4 : tie.Need-same-length-4
 same-length-4 c = search needs
 
 returns-2 : tie.Need-returns-2
-returns-2 c = λ u r l a. no-room _ _ _ _ _ _ _ (c .enum-told .given .1) (unguarded (c .before .before .before .before .before .before .put .result) _ _ _ _ _ _ _ (c .before .before .before .before .before .before .put .ensures (resolveTable (c .before .before .before .before .before .before .before .before .before .before .before .before .before .before .before .before .before .args .text .now) u) r (sure (c .before .before .before .before .before .before .before .before .before .before .before .before .before .before .before .before .before .args .text .now) u l (c .before .before .before .before .before .before .before .before .before .before .before .before .before .before .before .before .before .args .marks .now) (c .before .before .before .before .before .before .before .before .before .before .before .before .before .before .before .before .before .pre .1 .0 .settled u l)) a))
-
-same-length-5 : tie.Need-same-length-5
-same-length-5 c = search needs
-
-same-length-6 : tie.Need-same-length-6
-same-length-6 c = search needs
-
-returns-3 : tie.Need-returns-3
-returns-3 c = λ u r l a. wrote-done _ _ _ _ _ _ _ (c .before .q .given .1) (unguarded (c .before .before .before .before .before .before .before .put .result) _ _ _ _ _ _ _ (c .before .before .before .before .before .before .before .put .ensures (resolveTable (c .before .before .before .before .before .before .before .before .before .before .before .before .before .before .before .before .before .before .args .text .now) u) r (sure (c .before .before .before .before .before .before .before .before .before .before .before .before .before .before .before .before .before .before .args .text .now) u l (c .before .before .before .before .before .before .before .before .before .before .before .before .before .before .before .before .before .before .args .marks .now) (c .before .before .before .before .before .before .before .before .before .before .before .before .before .before .before .before .before .before .pre .1 .0 .settled u l)) a))
+returns-2 c = λ u r l a.
+    let s = start (c .before .before .before .before .before) in
+    let y = s .args .text .now in
+    wrote-answer (c .before .before .before .before .before .put .result) _ _ _ _ _ _ _ (c .written .ensures) (unguarded (c .before .before .before .before .before .put .result) _ _ _ _ _ _ _ (c .before .before .before .before .before .put .ensures (resolveTable y u) r (sure y u l (s .args .marks .now) (s .pre .1 .0 .settled u l)) a))
 
 pub restore-spec : {M : Type 1} → statement M
-restore-spec =
-    tie.close
-    (tie.spec
-    stays-requires
-    copy-requires
-    same-length
-    same-length-2
-    returns
-    put-requires
-    enum-known-q
-    enum-told
-    same-length-3
-    same-length-4
-    returns-2
-    same-length-5
-    same-length-6
-    returns-3)
+restore-spec = tie.close (tie.spec stays-requires copy-requires same-length same-length-2 returns put-requires written-requires same-length-3 same-length-4 returns-2)

@@ -3,6 +3,7 @@ use mathlib.Core.Path.{refl, _∙_}
 use Prim.Native.Nat.{_-_, _/_}
 use native.Mathlib.Omega.{arith}
 use lib.ListN.{length}
+use Rattle.grammar.specs.Numbers.{ruleWidth}
 use Rattle.restorer.proofs.Ends.{Settling, rows-fit, settling-start, settling-next, settling-end}
 use Rattle.restorer.proofs.settle.Statement.{statement}
 use Rattle.restorer.proofs.settle.Tie as tie
@@ -11,14 +12,14 @@ abbrev Inv-loop : tie.InvT-loop
 Inv-loop rules rows text marks₀ stack₀ count i₀ marks stack i = Settling rules rows text marks₀ marks stack₀ stack i
 
 abbrev μ-loop : tie.MeasureT-loop
-μ-loop rules rows text marks₀ stack₀ count i₀ marks stack i = length rules / 4 - i
+μ-loop rules rows text marks₀ stack₀ count i₀ marks stack i = length rules / ruleWidth - i
 
 mark-ends-requires : tie.Need-mark-ends-requires Inv-loop μ-loop
-mark-ends-requires c κs = let s = c .before .before .before .before .before .before in (rows-fit (s .pre .0) (s .pre .1 .0), s .pre .0 .hashed .long)
+mark-ends-requires c κs = let s = c .before .before .before .before .before .before in (rows-fit (s .pre .0) (s .pre .1 .0), s .pre .0 .index .long)
 
 forget-requires : tie.Need-forget-requires Inv-loop μ-loop
 forget-requires c κs = let at-mark-ends = c .before .before .before in
-    let at-pre = at-mark-ends .before .before .before .before .before .before .before in omega (arith, at-pre .pre .0 .hashed .long, at-mark-ends .mark-ends .kept .1 .0)
+    let at-pre = at-mark-ends .before .before .before .before .before .before .before in omega (arith, at-pre .pre .0 .index .long, at-mark-ends .mark-ends .kept .1 .0)
 
 loop-holds : tie.Need-loop-holds Inv-loop μ-loop
 loop-holds c = let at-forget = c .before .before in

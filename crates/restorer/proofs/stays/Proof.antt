@@ -11,7 +11,7 @@ use Rattle.restorer.proofs.stays.Statement.{statement}
 use Rattle.restorer.proofs.stays.Tie as tie
 
 memory-requires : tie.Need-memory-requires
-memory-requires c κs = let s = c .before .before .before .before in (s .pre .0 .hashed .long, omega (arith, root (s .pre .1 .1 .at) .inside, s .good .1 .1 .0))
+memory-requires c κs = let s = c .before .before .before .before in (s .pre .0 .index .long, omega (arith, root (s .pre .1 .1 .at) .inside, s .good .1 .1 .0))
 
 returns : tie.Need-returns
 returns c = λ e. absurd (false≢true e)

@@ -6,6 +6,7 @@ use Prim.Native.Nat.{ℕ, _-_, _/_, _≤_, _<_}
 use lib.ListN.{length}
 use native.Mathlib.Omega.{arith}
 use borrow.Author.Count.{below-more}
+use Rattle.grammar.specs.Numbers.{rowWidth}
 use Rattle.rows.specs.Rows.{kindAt}
 use Rattle.restorer.proofs.Calms.{Calm, calm-other, calm-name, calm-table}
 use Rattle.restorer.proofs.still.Statement.{statement}
@@ -13,7 +14,7 @@ use Rattle.restorer.proofs.still.Tie as tie
 
 -- no row before row i changes the stack by itself
 abbrev Inv-loop : tie.InvT-loop
-Inv-loop rows text count i₀ i = (count ≡ length rows / 4) × (i ≤ count) × ((j : ℕ) → j < i → Calm text rows j)
+Inv-loop rows text count i₀ i = (count ≡ length rows / rowWidth) × (i ≤ count) × ((j : ℕ) → j < i → Calm text rows j)
 
 abbrev μ-loop : tie.MeasureT-loop
 μ-loop rows text count i₀ i = count - i

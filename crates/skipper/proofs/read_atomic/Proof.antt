@@ -33,6 +33,9 @@ returns : tie.Need-returns
 returns c = (record { steady = steady-none _; least = omega arith }, λ u r l h. atomic-no l (c .before .before .before .before .before .before .args .k) r h _ (c .if1 .taken) (λ e. omega arith))
 
 -- src/lib.rt:281:26
+mul-wide-2 : tie.Need-mul-wide-2
+mul-wide-2 c = search needs
+
 add-wide : tie.Need-add-wide
 add-wide c = search needs
 
@@ -53,8 +56,8 @@ add-wide-2 : tie.Need-add-wide-2
 add-wide-2 c = search needs
 
 -- src/lib.rt:282:53
-mul-wide-2 : tie.Need-mul-wide-2
-mul-wide-2 c = search needs
+mul-wide-3 : tie.Need-mul-wide-3
+mul-wide-3 c = search needs
 
 -- src/lib.rt:282:53
 shared-slice-read-wide : tie.Need-shared-slice-read-wide
@@ -76,9 +79,16 @@ read-loops-requires c κs = (c .before .before .before .before .before .before .
 same-length : tie.Need-same-length
 same-length c = search needs
 
+-- the points that are looked back to
+abbrev read-loops-to-start : tie.After-read-loops → tie.Start
+read-loops-to-start c = c .before .before .before .before .before .before .before .before .before .before .before .before
+
+abbrev slice-known3-to-start : tie.After-slice-known3 → tie.Start
+slice-known3-to-start c = read-loops-to-start (c .before .before)
+
 -- src/lib.rt:271:1
 returns-2 : tie.Need-returns-2
-returns-2 c = let s = c .before .before .before .before .before .before .before .before .before .before .before .before .before .before in
+returns-2 c = let s = (slice-known3-to-start c) in
     (c .before .before .read-loops .ensures .0, λ u r l h. atomic-yes l (s .args .k) r h _ (c .before .before .before .before .before .before .before .before .if1 .left) (c .before .before .read-loops .ensures .1 u (r .body) l (rw (c .before .before .before .before .before .before .wide .ensures) (rule-tree l (s .args .k) r h (s .pre .1) (s .pre .0 .ended)))))
 
 pub read-atomic-spec : {M : Type 1} → statement M
@@ -90,12 +100,13 @@ read-atomic-spec =
     mul-if1
     shared-slice-read-if1
     returns
-    add-wide
     mul-wide
+    add-wide
+    mul-wide-2
     slice-read-wide
     wide-requires
     add-wide-2
-    mul-wide-2
+    mul-wide-3
     shared-slice-read-wide
     wide-requires-2
     sub-read-loops

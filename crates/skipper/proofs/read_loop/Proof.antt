@@ -1,96 +1,54 @@
-use mathlib.Core.Path.{_≡_, refl, sym, ap, _∙_}
-use Prim.Native.Nat.{_+_, _-_, _≤_}
 use native.Mathlib.Omega.{arith}
-use Rattle.rows.proofs.Laws.{Found, row-found, root-there}
+use Rattle.rows.proofs.Laws.{root}
 use Rattle.skipper.proofs.Rules.{steady-none}
+use Rattle.skipper.proofs.Leaf.{read-found}
 use Rattle.skipper.proofs.Settles.{loop-no, rep-view, loop-nothing, loop-over, loop-list}
 use borrow.Author.Needs.{needs}
 use Rattle.skipper.proofs.read_loop.Statement.{statement}
 use Rattle.skipper.proofs.read_loop.Tie as tie
-use Rattle.skipper.proofs.read_loop.Reads as reads
-use Rattle.skipper.proofs.read_loop.Lts as lts
-use Rattle.rows.proofs.row_at.Reads as row-at-reads
-use Rattle.skipper.proofs.in_loop.Reads as in-loop-reads
-use Rattle.skipper.proofs.read_leaves.Reads as read-leaves-reads
 
--- the row that was read
-here : (c : tie.After-known-told) → let k = c .before .kind .given .0 in Found (c .before .before .before .before .before .before .before .before .args .rows .now) (c .before .before .before .before .before .before .before .before .args .i) (k .0) (k .1 .0) (k .1 .1 .0) (k .1 .1 .1 .0)
-here c = row-found (sym (c .before .before .before .row-at .ensures) ∙ c .before .kind .given .1)
+kind-at-requires : tie.Need-kind-at-requires
+kind-at-requires c κs = root (c .before .before .before .before .pre .1 .at) .inside
 
--- src/lib.rt:224:9
-row-at-requires : tie.Need-row-at-requires
-row-at-requires c κs = search needs
-
--- src/lib.rt:220:9
-enum-known-kind : tie.Need-enum-known-kind
-enum-known-kind c = search needs
-
--- src/lib.rt:226:9
-enum-told : tie.Need-enum-told
-enum-told c = search needs
-
--- src/lib.rt:226:9
 returns : tie.Need-returns
-returns c = absurd (root-there (c .before .before .before .before .before .before .before .pre .1 .at) (sym (c .before .before .row-at .ensures) ∙ c .enum-told .given .1))
+returns c = (record { steady = steady-none _; least = omega arith }, λ u r l a. loop-no _ (read-found a (c .before .kind-at .ensures)) a (c .if1 .taken) (λ e. omega arith))
 
--- src/lib.rt:229:9
-returns-2 : tie.Need-returns-2
-returns-2 c = (record { steady = steady-none _; least = omega arith }, λ u r l a. loop-no _ (here (c .before)) a (c .if1 .taken) (λ e. omega arith))
-
--- src/lib.rt:231:45
 sub-in-loop : tie.Need-sub-in-loop
-sub-in-loop c = let v = rep-view (c .before .before .before .before .before .before .before .before .before .args .text .now) (here (c .before)) (c .before .before .before .before .before .before .before .before .before .pre .1 .at) (c .if1 .left) in omega (arith, v .most, v .least)
+sub-in-loop c = let a = c .before .before .before .before .before .before .pre .1 .at in let v = rep-view (c .before .before .before .before .before .before .args .text .now) (read-found a (c .before .kind-at .ensures)) a (c .if1 .left) in omega (arith, v .most, v .least)
 
--- src/lib.rt:231:25
 in-loop-requires : tie.Need-in-loop-requires
-in-loop-requires c κs = let v = rep-view (c .before .before .before .before .before .before .before .before .before .args .text .now) (here (c .before)) (c .before .before .before .before .before .before .before .before .before .pre .1 .at) (c .if1 .left) in (c .before .before .before .before .before .before .before .before .before .pre .0 .inside, record { tree = v .child; at = v .at })
+in-loop-requires c κs = let a = c .before .before .before .before .before .before .pre .1 .at in let v = rep-view (c .before .before .before .before .before .before .args .text .now) (read-found a (c .before .kind-at .ensures)) a (c .if1 .left) in (c .before .before .before .before .before .before .pre .0 .inside, record { tree = v .child; at = v .at })
 
--- src/lib.rt:231:20
 enum-known-e : tie.Need-enum-known-e
 enum-known-e c = search needs
 
--- src/lib.rt:232:9
-enum-told-2 : tie.Need-enum-told-2
-enum-told-2 c = search needs
+enum-told : tie.Need-enum-told
+enum-told c = search needs
 
--- src/lib.rt:232:9
-returns-3 : tie.Need-returns-3
-returns-3 c = (
+returns-2 : tie.Need-returns-2
+returns-2 c = (
   record { steady = steady-none _; least = omega arith },
-  λ u r l a. loop-nothing (c .before .before .before .before .before .before .before .before .before .before .before .before .args .text .now) (here (c .before .before .before .before)) a (c .before .before .before .if1 .left) (c .before .before .in-loop .ensures _ (rep-view (c .before .before .before .before .before .before .before .before .before .before .before .before .args .text .now) (here (c .before .before .before .before)) a (c .before .before .before .if1 .left) .at)) (c .enum-told2 .given .1) (λ e. omega arith),
+  λ u r l a. let y = c .before .before .before .before .before .before .before .before .before .args .text .now in loop-nothing y (read-found a (c .before .before .before .before .kind-at .ensures)) a (c .before .before .before .if1 .left) (c .before .before .in-loop .ensures _ (rep-view y (read-found a (c .before .before .before .before .kind-at .ensures)) a (c .before .before .before .if1 .left) .at)) (c .enum-told .given .1) (λ e. omega arith),
 )
 
--- src/lib.rt:234:5
 read-leaves-requires : tie.Need-read-leaves-requires
-read-leaves-requires c κs = let s = c .before .before .before .before .before .before .before .before .before .before .before .before .before .before in
-    let o = loop-over (s .args .text .now) (here (c .before .before .before .before .before .before)) (s .pre .1 .at) (c .before .before .before .before .before .if1 .left) (c .before .before .before .before .in-loop .ensures _ (rep-view (s .args .text .now) (here (c .before .before .before .before .before .before)) (s .pre .1 .at) (c .before .before .before .before .before .if1 .left) .at)) (c .before .before .e .given .1) in
-    (s .pre .0, record { tree = o .tree; at = o .at })
+read-leaves-requires c κs = let s = c .before .before .before .before .before .before .before .before .before .before .before in let y = s .args .text .now in let a = s .pre .1 .at in let o = loop-over y (read-found a (c .before .before .before .before .before .before .kind-at .ensures)) a (c .before .before .before .before .before .if1 .left) (c .before .before .before .before .in-loop .ensures _ (rep-view y (read-found a (c .before .before .before .before .before .before .kind-at .ensures)) a (c .before .before .before .before .before .if1 .left) .at)) (c .before .before .e .given .1) in (s .pre .0, record { tree = o .tree; at = o .at })
 
--- src/lib.rt:213:1
 same-length : tie.Need-same-length
 same-length c = search needs
 
--- src/lib.rt:213:1
-returns-4 : tie.Need-returns-4
-returns-4 c = let s = c .before .before .before .before .before .before .before .before .before .before .before .before .before .before .before .before .before in (
+-- the points that are looked back to
+abbrev read-leaves-to-start : tie.After-read-leaves → tie.Start
+read-leaves-to-start c = c .before .before .before .before .before .before .before .before .before .before .before .before
+
+abbrev slice-known2-to-start : tie.After-slice-known2 → tie.Start
+slice-known2-to-start c = read-leaves-to-start (c .before .before)
+
+returns-3 : tie.Need-returns-3
+returns-3 c = (
   c .before .before .read-leaves .ensures .0,
-  λ u r l a. loop-list (s .args .text .now) (here (c .before .before .before .before .before .before .before .before .before)) a (c .before .before .before .before .before .before .before .before .if1 .left) (c .before .before .before .before .before .before .before .in-loop .ensures _ (rep-view (s .args .text .now) (here (c .before .before .before .before .before .before .before .before .before)) a (c .before .before .before .before .before .before .before .before .if1 .left) .at)) (c .before .before .before .before .before .e .given .1) (c .before .before .read-leaves .ensures .0 .least) (λ q b. c .before .before .read-leaves .ensures .1 u q l b),
+  λ u r l a. let y = (slice-known2-to-start c) .args .text .now in loop-list y (read-found a (c .before .before .before .before .before .before .before .before .before .kind-at .ensures)) a (c .before .before .before .before .before .before .before .before .if1 .left) (c .before .before .before .before .before .before .before .in-loop .ensures _ (rep-view y (read-found a (c .before .before .before .before .before .before .before .before .before .kind-at .ensures)) a (c .before .before .before .before .before .before .before .before .if1 .left) .at)) (c .before .before .before .before .before .e .given .1) (c .before .before .read-leaves .ensures .0 .least) (λ q b. c .before .before .read-leaves .ensures .1 u q l b),
 )
 
 pub read-loop-spec : {M : Type 1} → statement M
-read-loop-spec =
-    tie.close
-    (tie.spec
-    row-at-requires
-    enum-known-kind
-    enum-told
-    returns
-    returns-2
-    sub-in-loop
-    in-loop-requires
-    enum-known-e
-    enum-told-2
-    returns-3
-    read-leaves-requires
-    same-length
-    returns-4)
+read-loop-spec = tie.close (tie.spec kind-at-requires returns sub-in-loop in-loop-requires enum-known-e enum-told returns-2 read-leaves-requires same-length returns-3)

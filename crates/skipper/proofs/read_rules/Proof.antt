@@ -2,6 +2,7 @@ use mathlib.Core.Path.{_≡_, refl, sym, ap, _∙_}
 use Prim.Native.Nat.{_+_, _-_, _/_, _≤_}
 use native.Mathlib.Omega.{arith}
 use lib.ListN.{length}
+use Rattle.grammar.specs.Numbers.{ruleWidth}
 use Rattle.skipper.proofs.Rules.{steady-more}
 use Rattle.skipper.proofs.Leaf.{given-steady}
 use Rattle.skipper.proofs.Tables.{RulesRead, rules-begin, rules-met, rules-next, rules-end}
@@ -12,7 +13,7 @@ use Rattle.skipper.proofs.read_rules.Lts as lts
 use Rattle.skipper.proofs.read_atomic.Reads as read-atomic-reads
 
 abbrev Inv-loop : tie.InvT-loop
-Inv-loop rules rows text marks₀ count k₀ marks k = (count ≡ length rules / 4) × RulesRead rules rows text marks₀ marks k
+Inv-loop rules rows text marks₀ count k₀ marks k = (count ≡ length rules / ruleWidth) × RulesRead rules rows text marks₀ marks k
 
 abbrev μ-loop : tie.MeasureT-loop
 μ-loop rules rows text marks₀ count k₀ marks k = count - k

@@ -69,9 +69,16 @@ same-length-2 c = c .before .before .before .before .put-node .kept .0 ∙ c .be
 returns-2 : tie.Need-returns-2 Inv-loop μ-loop
 returns-2 c = λ us r a l. up-full (c .before .before .before .before .before .before .before .before .before .before .before .loop .inv) _ _ _ _ (c .before .before .before .before .put-node .ensures) (c .before .before .before .before .before .before .before .before .before .before .loop-test .taken) (c .enum-told3 .given .1) us r a l
 
+-- the points that are looked back to
+abbrev slice-known2-to-start : tie.After-slice-known2 Inv-loop μ-loop → tie.Start Inv-loop μ-loop
+slice-known2-to-start c = c .before .before .before .before .before .before .before .before .before .before .before .before
+
+abbrev enum-told2-to-start : tie.After-enum-told2 Inv-loop μ-loop → tie.Start Inv-loop μ-loop
+enum-told2-to-start c = slice-known2-to-start (c .before .before)
+
 -- src/lib.rt:742:9
 add-at : tie.Need-add-at Inv-loop μ-loop
-add-at c = let u = c .before .before .before .before .before .before .before .before .before .before .before .loop .inv in omega (arith, u .room, u .same, c .before .before .before .before .before .before .before .before .before .before .before .before .before .before .pre .words)
+add-at c = let u = c .before .before .before .before .before .before .before .before .before .before .before .loop .inv in omega (arith, u .room, u .same, (enum-told2-to-start c) .pre .words)
 
 -- src/lib.rt:718:5
 loop-less : tie.Need-loop-less Inv-loop μ-loop

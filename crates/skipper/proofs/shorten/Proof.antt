@@ -2,6 +2,7 @@ use mathlib.Core.Path.{_≡_, refl, sym, _∙_}
 use Prim.Native.Nat.{_-_, _/_}
 use native.Mathlib.Omega.{arith}
 use lib.ListN.{length}
+use Rattle.grammar.specs.Numbers.{ruleWidth}
 use Rattle.grammar.specs.Table.{resolveTable}
 use Rattle.skipper.proofs.Leaf.{length-table, count}
 use Rattle.skipper.proofs.Ways.{Shortening, relisted-none, relisted-more}
@@ -9,7 +10,7 @@ use Rattle.skipper.proofs.shorten.Statement.{statement}
 use Rattle.skipper.proofs.shorten.Tie as tie
 
 abbrev Inv-loop : tie.InvT-loop
-Inv-loop rules rows text marks₀ count steps₀ marks steps = (count ≡ length rules / 4) × Shortening rules rows text marks₀ marks steps
+Inv-loop rules rows text marks₀ count steps₀ marks steps = (count ≡ length rules / ruleWidth) × Shortening rules rows text marks₀ marks steps
 
 abbrev μ-loop : tie.MeasureT-loop
 μ-loop rules rows text marks₀ count steps₀ marks steps = count - steps
@@ -34,13 +35,20 @@ pass-all-requires c κs =
     let inv = c .before .before .loop .inv in
     let s = c .before .before .before .before .before .before .before .before .before .before .before .before in
     let g = s .pre in (
-      omega (arith, inv .0, inv .1 .long, c .before .before .before .before .before .before .tell-all .kept .1 .1 .1 .0, g .hashed .long),
+      omega (arith, inv .0, inv .1 .long, c .before .before .before .before .before .before .tell-all .kept .1 .1 .1 .0, g .index .long),
       record { table = resolveTable (s .args .text .now) (g .table); long = omega (arith, inv .0, length-table (s .args .text .now) (g .table), count (g .table) (g .lent .heads)); targets = inv .1 .targets (g .table) (g .lent) },
     )
 
+-- the points that are looked back to
+abbrev pass-all-arg-to-start : tie.After-pass-all-arg Inv-loop μ-loop → tie.Start Inv-loop μ-loop
+pass-all-arg-to-start c = c .before .before .before .before .before .before .before .before .before .before .before .before
+
+abbrev slice-known3-to-start : tie.After-slice-known3 Inv-loop μ-loop → tie.Start Inv-loop μ-loop
+slice-known3-to-start c = pass-all-arg-to-start (c .before .before .before)
+
 -- src/lib.rt:443:9
 mul-steps : tie.Need-mul-steps Inv-loop μ-loop
-mul-steps c = omega (arith, c .before .before .before .before .loop-test .taken, c .before .before .before .before .before .loop .inv .0, c .before .before .before .before .before .before .before .before .before .before .before .before .before .before .before .good .0 .0)
+mul-steps c = omega (arith, c .before .before .before .before .loop-test .taken, c .before .before .before .before .before .loop .inv .0, (slice-known3-to-start c) .good .0 .0)
 
 -- src/lib.rt:441:5
 loop-less : tie.Need-loop-less Inv-loop μ-loop
@@ -50,7 +58,7 @@ loop-less c = omega (arith, c .before .before .before .before .loop-test .taken,
 loop-again : tie.Need-loop-again Inv-loop μ-loop
 loop-again c =
     let inv = c .before .before .before .before .before .loop .inv in
-    let s = c .before .before .before .before .before .before .before .before .before .before .before .before .before .before .before in (
+    let s = (slice-known3-to-start c) in (
       inv .0,
       record {
         least = omega (arith, inv .1 .least);

@@ -1,3 +1,5 @@
+use Rattle.names.specs.Names.{memoryWord}
+use Rattle.grammar.specs.Numbers.{markWidth}
 use Rattle.grammar.specs.Table.{resolveTable}
 use mathlib.Core.Path.{refl}
 use Prim.Native.Nat.{_+_, _*_, _<_}
@@ -16,10 +18,10 @@ small c =
     let g = s .pre .0 in
     let n = c .named-by .ensures (g .table) (g .lent) in
     let w : c .named-by .result < length (resolveTable (s .args .text .now) (g .table)) = gives-within n in
-    omega (arith, g .hashed .indexed .few, length-table (s .args .text .now) (g .table), count (g .table) (g .lent .heads))
+    omega (arith, g .index .indexed .few, length-table (s .args .text .now) (g .table), count (g .table) (g .lent .heads))
 
-inside : (c : tie.After-named-by) → let s = c .before .before .before .before .before .before .before .before in s .args .i * 4 + 1 < length (s .args .marks .now)
-inside c = let s = c .before .before .before .before .before .before .before .before in omega (arith, s .pre .1, s .pre .0 .hashed .long)
+inside : (c : tie.After-named-by) → let s = c .before .before .before .before .before .before .before .before in s .args .i * markWidth + memoryWord < length (s .args .marks .now)
+inside c = let s = c .before .before .before .before .before .before .before .before in omega (arith, s .pre .1, s .pre .0 .index .long)
 
 -- src/lib.rt:377:14
 mul-if1 : tie.Need-mul-if1

@@ -2,13 +2,14 @@ use mathlib.Core.Path.{_≡_, refl, _∙_}
 use Prim.Native.Nat.{_-_, _/_}
 use native.Mathlib.Omega.{arith}
 use lib.ListN.{length}
+use Rattle.grammar.specs.Numbers.{ruleWidth}
 use Rattle.skipper.proofs.Leaf.{given-steady, length-table, count}
 use Rattle.skipper.proofs.Ways.{Telling, relisted-none, relisted-more}
 use Rattle.skipper.proofs.tell_all.Statement.{statement}
 use Rattle.skipper.proofs.tell_all.Tie as tie
 
 abbrev Inv-loop : tie.InvT-loop
-Inv-loop rules rows text marks₀ count others₀ i₀ marks others i = (count ≡ length rules / 4) × Telling rules rows text marks₀ marks i
+Inv-loop rules rows text marks₀ count others₀ i₀ marks others i = (count ≡ length rules / ruleWidth) × Telling rules rows text marks₀ marks i
 
 abbrev μ-loop : tie.MeasureT-loop
 μ-loop rules rows text marks₀ count others₀ i₀ marks others i = count - i

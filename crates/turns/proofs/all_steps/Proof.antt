@@ -1,172 +1,150 @@
-use mathlib.Core.Path.{_∙_, refl, sym}
-use Rattle.turns.proofs.Owning.{moved-five}
-use Rattle.grammar.specs.Table.{resolveTable}
+use mathlib.Core.Path.{_∙_}
+use mathlib.Core.Bool.{_||_}
+use Rattle.grammar.specs.Rows.{Span}
+use Rattle.grammar.specs.Table.{Table, resolveTable}
 use Rattle.grammar.specs.Refusals.{tooLarge}
-use Rattle.grammar.specs.Optimize.{lastOf}
-use Rattle.turns.specs.Chain.{firstFive, lastTwo}
-use Rattle.turns.proofs.Sizes.{sized-same}
-use Rattle.turns.proofs.Runs.{any-left, any-right, two-done, two-full, five-done, five-full, ready-lent, fifth-count, all-ran}
+use Rattle.passes.specs.Passes.{Lent}
+use Rattle.turns.specs.Chain.{Works, Stood, Paired, rotated, skipped, unrolled, concatenated, factored, listed, restored}
+use Rattle.turns.proofs.Sizes.{sized-areas, sized-same}
+use Rattle.turns.proofs.Runs.{large3, large5, large6, ready-lent, first-passing, first-rules, first-stood, rotated-count, unrolled-count, factored-count, listed-count, skip-turns, join-turns, list-turning, restoring, seven-answer}
 use borrow.Author.Needs.{needs}
 use Rattle.turns.proofs.all_steps.Statement.{statement}
 use Rattle.turns.proofs.all_steps.Tie as tie
-use Rattle.turns.proofs.all_steps.Reads as reads
-use Rattle.turns.proofs.all_steps.Lts as lts
-use Rattle.turns.proofs.first_five.Reads as first-five-reads
-use Rattle.turns.proofs.last_two.Reads as last-two-reads
 
--- src/lib.rt:311:37
-first-five-requires : tie.Need-first-five-requires
-first-five-requires c κs = search needs
+-- the function's entry, from before step 1; step 1, from before steps 2 and 3; these, from before 4 and 5; these, from before 6; and 6, from before 7
+abbrev started : tie.After-slice-known7 → tie.Start
+started c = c .before .before .before .before .before .before .before .before .before .before
 
--- src/lib.rt:311:20
-enum-known-i : tie.Need-enum-known-i
-enum-known-i c = search needs
+abbrev first : tie.After-slice-known10 → tie.After-pass
+first c = c .before .before .before .before .before .before
 
--- src/lib.rt:323:9
-enum-told : tie.Need-enum-told
-enum-told c = search needs
+abbrev second : tie.After-slice-known16 → tie.After-two-steps
+second c = c .before .before .before .before .before .before .before .before .before .before .before .before
 
--- src/lib.rt:323:9
+abbrev third : tie.After-slice-known22 → tie.After-two-steps2
+third c = c .before .before .before .before .before .before .before .before .before .before .before .before
+
+abbrev fourth : tie.After-slice-known25 → tie.After-turn
+fourth c = c .before .before .before .before .before .before
+
+abbrev entry1 : tie.After-pass → tie.Start
+entry1 c = started (c .before .before .before .before .before)
+
+abbrev entry2 : tie.After-two-steps → tie.Start
+entry2 c = entry1 (first (c .before .before .before .before .before .before .before))
+
+abbrev entry3 : tie.After-two-steps2 → tie.Start
+entry3 c = entry2 (second (c .before .before .before .before .before .before .before))
+
+abbrev entry4 : tie.After-turn → tie.Start
+entry4 c = entry3 (third (c .before .before .before .before .before .before .before))
+
+abbrev entry5 : tie.After-restore → tie.Start
+entry5 c = entry4 (fourth (c .before .before .before .before .before .before .before .before))
+
+-- the work tables after each, and what stands in them
+sizes1 : (c : tie.After-pass) → let s = entry1 c in Works (c .pass .last .1 .1 .1 .1 .1 .1 .1 .1 .0) (c .pass .last .1 .1 .1 .1 .1 .1 .1 .1 .1 .0) (c .pass .last .1 .1 .1 .1 .1 .1 .1 .1 .1 .1 .0) (s .args .b-rules .now) (s .args .b-rows .now) (s .args .b-text .now)
+sizes1 c = let z = entry1 c .pre .1 in record { one = sized-same (c .pass .kept .1 .1 .1 .1 .1 .1 .1 .1 .0) (c .pass .kept .1 .1 .1 .1 .1 .1 .1 .1 .1 .0) (c .pass .kept .1 .1 .1 .1 .1 .1 .1 .1 .1 .1 .0) (z .one); other = z .other }
+
+stood1 : (c : tie.After-pass) → let s = entry1 c in (t : Table Span) → Lent t (s .args .rules .now) (s .args .rows .now) → let t0 = resolveTable (s .args .text .now) t in Stood (c .pass .result) (tooLarge (rotated t0)) (rotated t0) (c .pass .last .1 .1 .1 .1 .1 .1 .1 .1 .0) (c .pass .last .1 .1 .1 .1 .1 .1 .1 .1 .1 .0) (c .pass .last .1 .1 .1 .1 .1 .1 .1 .1 .1 .1 .0)
+stood1 c t l = let s = entry1 c in first-stood (s .pre .0) t l (c .pass .result) (s .pre .1 .one) (sizes1 c .one) (c .pass .ensures)
+
+sizes2 : (c : tie.After-two-steps) → Works (c .two-steps .last .1 .1 .1 .1 .1 .1 .1 .1 .0) (c .two-steps .last .1 .1 .1 .1 .1 .1 .1 .1 .1 .0) (c .two-steps .last .1 .1 .1 .1 .1 .1 .1 .1 .1 .1 .0) (c .two-steps .last .1 .1 .1 .1 .1 .1 .1 .1 .1 .1 .1 .0) (c .two-steps .last .1 .1 .1 .1 .1 .1 .1 .1 .1 .1 .1 .1 .0) (c .two-steps .last .1 .1 .1 .1 .1 .1 .1 .1 .1 .1 .1 .1 .1 .0)
+sizes2 c = let z = sizes1 (first (c .before .before .before .before .before .before .before)) in record { one = sized-same (c .two-steps .kept .1 .1 .1 .1 .1 .1 .1 .1 .0) (c .two-steps .kept .1 .1 .1 .1 .1 .1 .1 .1 .1 .0) (c .two-steps .kept .1 .1 .1 .1 .1 .1 .1 .1 .1 .1 .0) (z .one); other = sized-same (c .two-steps .kept .1 .1 .1 .1 .1 .1 .1 .1 .1 .1 .1 .0) (c .two-steps .kept .1 .1 .1 .1 .1 .1 .1 .1 .1 .1 .1 .1 .0) (c .two-steps .kept .1 .1 .1 .1 .1 .1 .1 .1 .1 .1 .1 .1 .1 .0) (z .other) }
+
+stood2 : (c : tie.After-two-steps) → let s = entry2 c in (t : Table Span) → Lent t (s .args .rules .now) (s .args .rows .now) → let t0 = resolveTable (s .args .text .now) t in Paired (c .two-steps .result) (tooLarge (rotated t0)) (skipped t0) (unrolled t0) (c .two-steps .last .1 .1 .1 .1 .1 .1 .1 .1 .0) (c .two-steps .last .1 .1 .1 .1 .1 .1 .1 .1 .1 .0) (c .two-steps .last .1 .1 .1 .1 .1 .1 .1 .1 .1 .1 .0)
+stood2 c t l = let s = entry2 c in let t0 = resolveTable (s .args .text .now) t in c .two-steps .ensures t (rotated t0) (tooLarge (rotated t0)) l (stood1 (first (c .before .before .before .before .before .before .before)) t l) (rotated-count (s .pre .0) t l)
+
+sizes3 : (c : tie.After-two-steps2) → Works (c .two-steps2 .last .1 .1 .1 .1 .1 .1 .1 .1 .0) (c .two-steps2 .last .1 .1 .1 .1 .1 .1 .1 .1 .1 .0) (c .two-steps2 .last .1 .1 .1 .1 .1 .1 .1 .1 .1 .1 .0) (c .two-steps2 .last .1 .1 .1 .1 .1 .1 .1 .1 .1 .1 .1 .0) (c .two-steps2 .last .1 .1 .1 .1 .1 .1 .1 .1 .1 .1 .1 .1 .0) (c .two-steps2 .last .1 .1 .1 .1 .1 .1 .1 .1 .1 .1 .1 .1 .1 .0)
+sizes3 c = let z = sizes2 (second (c .before .before .before .before .before .before .before)) in record { one = sized-same (c .two-steps2 .kept .1 .1 .1 .1 .1 .1 .1 .1 .0) (c .two-steps2 .kept .1 .1 .1 .1 .1 .1 .1 .1 .1 .0) (c .two-steps2 .kept .1 .1 .1 .1 .1 .1 .1 .1 .1 .1 .0) (z .one); other = sized-same (c .two-steps2 .kept .1 .1 .1 .1 .1 .1 .1 .1 .1 .1 .1 .0) (c .two-steps2 .kept .1 .1 .1 .1 .1 .1 .1 .1 .1 .1 .1 .1 .0) (c .two-steps2 .kept .1 .1 .1 .1 .1 .1 .1 .1 .1 .1 .1 .1 .1 .0) (z .other) }
+
+stood3 : (c : tie.After-two-steps2) → let s = entry3 c in (t : Table Span) → Lent t (s .args .rules .now) (s .args .rows .now) → let t0 = resolveTable (s .args .text .now) t in Paired (c .two-steps2 .result) (large3 t0) (concatenated t0) (factored t0) (c .two-steps2 .last .1 .1 .1 .1 .1 .1 .1 .1 .0) (c .two-steps2 .last .1 .1 .1 .1 .1 .1 .1 .1 .1 .0) (c .two-steps2 .last .1 .1 .1 .1 .1 .1 .1 .1 .1 .1 .0)
+stood3 c t l = let s = entry3 c in let t0 = resolveTable (s .args .text .now) t in c .two-steps2 .ensures t (unrolled t0) (large3 t0) l (stood2 (second (c .before .before .before .before .before .before .before)) t l .stood) (unrolled-count (s .pre .0) t l)
+
+sizes4 : (c : tie.After-turn) → let y = third (c .before .before .before .before .before .before .before) in Works (c .turn .last .1 .1 .1 .1 .1 .1 .1 .1 .1 .1 .0) (c .turn .last .1 .1 .1 .1 .1 .1 .1 .1 .1 .1 .1 .0) (c .turn .last .1 .1 .1 .1 .1 .1 .1 .1 .1 .1 .1 .1 .0) (y .two-steps2 .last .1 .1 .1 .1 .1 .1 .1 .1 .0) (y .two-steps2 .last .1 .1 .1 .1 .1 .1 .1 .1 .1 .0) (y .two-steps2 .last .1 .1 .1 .1 .1 .1 .1 .1 .1 .1 .0)
+sizes4 c = let z = sizes3 (third (c .before .before .before .before .before .before .before)) in record { one = sized-same (c .turn .kept .1 .1 .1 .1 .1 .1 .1 .1 .1 .1 .0) (c .turn .kept .1 .1 .1 .1 .1 .1 .1 .1 .1 .1 .1 .0) (c .turn .kept .1 .1 .1 .1 .1 .1 .1 .1 .1 .1 .1 .1 .0) (z .other); other = z .one }
+
+stood4 : (c : tie.After-turn) → let s = entry4 c in (t : Table Span) → Lent t (s .args .rules .now) (s .args .rows .now) → let t0 = resolveTable (s .args .text .now) t in Stood (c .turn .result) (large6 t0) (listed t0) (c .turn .last .1 .1 .1 .1 .1 .1 .1 .1 .1 .1 .0) (c .turn .last .1 .1 .1 .1 .1 .1 .1 .1 .1 .1 .1 .0) (c .turn .last .1 .1 .1 .1 .1 .1 .1 .1 .1 .1 .1 .1 .0)
+stood4 c t l = let s = entry4 c in let t0 = resolveTable (s .args .text .now) t in c .turn .ensures t (factored t0) (large5 t0) l (stood3 (third (c .before .before .before .before .before .before .before)) t l .stood) (factored-count (s .pre .0) t l)
+
+stood5 : (c : tie.After-restore) → let s = entry5 c in (t : Table Span) → Lent t (s .args .rules .now) (s .args .rows .now) → let t0 = resolveTable (s .args .text .now) t in Stood (c .restore .result) (large6 t0 || tooLarge (restored t0)) (restored t0) (c .restore .last .1 .1 .1 .1 .1 .1 .0) (c .restore .last .1 .1 .1 .1 .1 .1 .1 .0) (c .restore .last .1 .1 .1 .1 .1 .1 .1 .1 .0)
+stood5 c t l = let s = entry5 c in let t0 = resolveTable (s .args .text .now) t in c .restore .ensures (listed t0) (large6 t0) (stood4 (fourth (c .before .before .before .before .before .before .before .before)) t l) (listed-count (s .pre .0) t l)
+
+pass-requires : tie.Need-pass-requires
+pass-requires c κs =
+    let s = started (c .before .before .before .before) in
+    let r = s .pre .0 in
+    let z = s .pre .1 .one in
+    (first-passing r (r .given .table) (ready-lent r) z, (first-rules r (r .given .table) (ready-lent r) z, sized-areas z))
+
+two-steps-requires : tie.Need-two-steps-requires
+two-steps-requires c κs =
+    let y = first (c .before .before .before .before .before .before) in
+    let r = entry1 y .pre .0 in
+    skip-turns r (r .given .table) (ready-lent r) (sizes1 y) (stood1 y (r .given .table) (ready-lent r))
+
+two-steps-requires-2 : tie.Need-two-steps-requires-2
+two-steps-requires-2 c κs =
+    let y = second (c .before .before .before .before .before .before) in
+    let r = entry2 y .pre .0 in
+    join-turns r (r .given .table) (ready-lent r) (sizes2 y) (stood2 y (r .given .table) (ready-lent r) .stood)
+
+turn-requires : tie.Need-turn-requires
+turn-requires c κs =
+    let y = third (c .before .before .before .before .before .before) in
+    let r = entry3 y .pre .0 in
+    list-turning r (r .given .table) (ready-lent r) (sizes3 y) (stood3 y (r .given .table) (ready-lent r) .stood)
+
+restore-requires : tie.Need-restore-requires
+restore-requires c κs =
+    let y = fourth (c .before .before .before .before .before .before .before) in
+    let r = entry4 y .pre .0 in
+    restoring r (r .given .table) (ready-lent r) (sizes4 y) (stood4 y (r .given .table) (ready-lent r))
+
+joined-requires : tie.Need-joined-requires
+joined-requires c κs = search needs
+
 same-length : tie.Need-same-length
-same-length c = refl
+same-length c = c .before .before .before .before .before .before .before .before .before .restore .kept .0
 
--- src/lib.rt:323:9
 same-length-2 : tie.Need-same-length-2
-same-length-2 c = c .before .before .before .before .before .before .before .before .before .before .before .before .before .before .first-five .kept .1 .1 .1 .1 .0
+same-length-2 c = let e = c .before .before .before .before .before .before .before .before .before in let y = third (fourth (e .before .before .before .before .before .before .before .before) .before .before .before .before .before .before .before) in let x = second (y .before .before .before .before .before .before .before) in e .restore .kept .1 .1 .1 .1 .1 .1 .0 ∙ y .two-steps2 .kept .1 .1 .1 .1 .1 .1 .1 .1 .0 ∙ x .two-steps .kept .1 .1 .1 .1 .1 .1 .1 .1 .0 ∙ first (x .before .before .before .before .before .before .before) .pass .kept .1 .1 .1 .1 .1 .1 .1 .1 .0
 
--- src/lib.rt:323:9
 same-length-3 : tie.Need-same-length-3
-same-length-3 c = c .before .before .before .before .before .before .before .before .before .before .before .before .before .before .first-five .kept .1 .1 .1 .1 .1 .0
+same-length-3 c = let e = c .before .before .before .before .before .before .before .before .before in let y = third (fourth (e .before .before .before .before .before .before .before .before) .before .before .before .before .before .before .before) in let x = second (y .before .before .before .before .before .before .before) in e .restore .kept .1 .1 .1 .1 .1 .1 .1 .0 ∙ y .two-steps2 .kept .1 .1 .1 .1 .1 .1 .1 .1 .1 .0 ∙ x .two-steps .kept .1 .1 .1 .1 .1 .1 .1 .1 .1 .0 ∙ first (x .before .before .before .before .before .before .before) .pass .kept .1 .1 .1 .1 .1 .1 .1 .1 .1 .0
 
--- src/lib.rt:323:9
 same-length-4 : tie.Need-same-length-4
-same-length-4 c = c .before .before .before .before .before .before .before .before .before .before .before .before .before .before .first-five .kept .1 .1 .1 .1 .1 .1 .0
+same-length-4 c = let e = c .before .before .before .before .before .before .before .before .before in let y = third (fourth (e .before .before .before .before .before .before .before .before) .before .before .before .before .before .before .before) in let x = second (y .before .before .before .before .before .before .before) in e .restore .kept .1 .1 .1 .1 .1 .1 .1 .1 .0 ∙ y .two-steps2 .kept .1 .1 .1 .1 .1 .1 .1 .1 .1 .1 .0 ∙ x .two-steps .kept .1 .1 .1 .1 .1 .1 .1 .1 .1 .1 .0 ∙ first (x .before .before .before .before .before .before .before) .pass .kept .1 .1 .1 .1 .1 .1 .1 .1 .1 .1 .0
 
--- src/lib.rt:323:9
 same-length-5 : tie.Need-same-length-5
-same-length-5 c = c .before .before .before .before .before .before .before .before .before .before .before .before .before .before .first-five .kept .1 .1 .1 .1 .1 .1 .1 .0
+same-length-5 c = let e = c .before .before .before .before .before .before .before .before .before in let x = fourth (e .before .before .before .before .before .before .before .before) in let y = third (x .before .before .before .before .before .before .before) in x .turn .kept .1 .1 .1 .1 .1 .1 .1 .1 .1 .1 .0 ∙ y .two-steps2 .kept .1 .1 .1 .1 .1 .1 .1 .1 .1 .1 .1 .0 ∙ second (y .before .before .before .before .before .before .before) .two-steps .kept .1 .1 .1 .1 .1 .1 .1 .1 .1 .1 .1 .0
 
--- src/lib.rt:323:9
 same-length-6 : tie.Need-same-length-6
-same-length-6 c = c .before .before .before .before .before .before .before .before .before .before .before .before .before .before .first-five .kept .1 .1 .1 .1 .1 .1 .1 .1 .0
+same-length-6 c = let e = c .before .before .before .before .before .before .before .before .before in let x = fourth (e .before .before .before .before .before .before .before .before) in let y = third (x .before .before .before .before .before .before .before) in x .turn .kept .1 .1 .1 .1 .1 .1 .1 .1 .1 .1 .1 .0 ∙ y .two-steps2 .kept .1 .1 .1 .1 .1 .1 .1 .1 .1 .1 .1 .1 .0 ∙ second (y .before .before .before .before .before .before .before) .two-steps .kept .1 .1 .1 .1 .1 .1 .1 .1 .1 .1 .1 .1 .0
 
--- src/lib.rt:323:9
 same-length-7 : tie.Need-same-length-7
-same-length-7 c = c .before .before .before .before .before .before .before .before .before .before .before .before .before .before .first-five .kept .1 .1 .1 .1 .1 .1 .1 .1 .1 .0
+same-length-7 c = let e = c .before .before .before .before .before .before .before .before .before in let x = fourth (e .before .before .before .before .before .before .before .before) in let y = third (x .before .before .before .before .before .before .before) in x .turn .kept .1 .1 .1 .1 .1 .1 .1 .1 .1 .1 .1 .1 .0 ∙ y .two-steps2 .kept .1 .1 .1 .1 .1 .1 .1 .1 .1 .1 .1 .1 .1 .0 ∙ second (y .before .before .before .before .before .before .before) .two-steps .kept .1 .1 .1 .1 .1 .1 .1 .1 .1 .1 .1 .1 .1 .0
 
--- src/lib.rt:323:9
 returns : tie.Need-returns
 returns c =
-    let s = c .before .before .before .before .before .before .before .before .before .before .before .before .before .before .before .before .before .before .before .before .before .before .before .before .before .before .before .before .before .before .before .before in
-    let r = s .pre .0 in
-    let z = s .pre .1 in
-    λ t l. let t0 = resolveTable (s .args .text .now) t in any-left tooLarge (firstFive t0) (lastTwo (lastOf (firstFive t0))) (five-full _ _ _ _ (c .enum-told .given .1) (c .before .before .before .before .before .before .before .before .before .before .before .before .before .before .first-five .ensures t l))
-
--- src/lib.rt:325:27
-last-two-requires : tie.Need-last-two-requires
-last-two-requires c κs =
-    let s = c .before .before .before .before .before .before .before .before .before .before .before .before .before .before .before .before .before .before .before .before .before .before .before .before .before .before .before .before .before .before .before .before .before .before .before .before .before .before .before .before in
-    let r = s .pre .0 in
-    let z = s .pre .1 in
-    let t = r .given .table in
-    let l = ready-lent r in
-    let f = five-done _ _ _ _ (c .before .before .before .before .before .before .before .before .i .given .1) (c .before .before .before .before .before .before .before .before .before .before .before .before .before .before .before .before .before .before .before .before .before .before .first-five .ensures t l) in
-    (moved-five t (fifth-count r t l) (f .front) (sym (r .given .lent .heads)) (r .given .hashed), (record { table = _; front = f .front; count = fifth-count r t l }, record { one = sized-same (c .before .before .before .before .before .before .before .before .before .before .before .before .before .before .before .before .before .before .before .before .before .before .first-five .kept .1 .1 .1 .1 .0) (c .before .before .before .before .before .before .before .before .before .before .before .before .before .before .before .before .before .before .before .before .before .before .first-five .kept .1 .1 .1 .1 .1 .0) (c .before .before .before .before .before .before .before .before .before .before .before .before .before .before .before .before .before .before .before .before .before .before .first-five .kept .1 .1 .1 .1 .1 .1 .0) (z .one); other = sized-same (c .before .before .before .before .before .before .before .before .before .before .before .before .before .before .before .before .before .before .before .before .before .before .first-five .kept .1 .1 .1 .1 .1 .1 .1 .0) (c .before .before .before .before .before .before .before .before .before .before .before .before .before .before .before .before .before .before .before .before .before .before .first-five .kept .1 .1 .1 .1 .1 .1 .1 .1 .0) (c .before .before .before .before .before .before .before .before .before .before .before .before .before .before .before .before .before .before .before .before .before .before .first-five .kept .1 .1 .1 .1 .1 .1 .1 .1 .1 .0) (z .other) }))
-
--- src/lib.rt:325:19
-enum-known-m : tie.Need-enum-known-m
-enum-known-m c = search needs
-
--- src/lib.rt:336:9
-enum-told-2 : tie.Need-enum-told-2
-enum-told-2 c = search needs
-
--- src/lib.rt:336:9
-same-length-8 : tie.Need-same-length-8
-same-length-8 c = c .before .before .before .before .before .before .before .before .before .before .before .before .before .before .before .before .last-two .kept .0
-
--- src/lib.rt:336:9
-same-length-9 : tie.Need-same-length-9
-same-length-9 c = c .before .before .before .before .before .before .before .before .before .before .before .before .before .before .before .before .last-two .kept .1 .1 .1 .0 ∙ c .before .before .before .before .before .before .before .before .before .before .before .before .before .before .before .before .before .before .before .before .before .before .before .before .before .before .before .before .before .before .before .before .before .before .before .before .before .before .before .first-five .kept .1 .1 .1 .1 .0
-
--- src/lib.rt:336:9
-same-length-10 : tie.Need-same-length-10
-same-length-10 c = c .before .before .before .before .before .before .before .before .before .before .before .before .before .before .before .before .last-two .kept .1 .1 .1 .1 .0 ∙ c .before .before .before .before .before .before .before .before .before .before .before .before .before .before .before .before .before .before .before .before .before .before .before .before .before .before .before .before .before .before .before .before .before .before .before .before .before .before .before .first-five .kept .1 .1 .1 .1 .1 .0
-
--- src/lib.rt:336:9
-same-length-11 : tie.Need-same-length-11
-same-length-11 c = c .before .before .before .before .before .before .before .before .before .before .before .before .before .before .before .before .last-two .kept .1 .1 .1 .1 .1 .0 ∙ c .before .before .before .before .before .before .before .before .before .before .before .before .before .before .before .before .before .before .before .before .before .before .before .before .before .before .before .before .before .before .before .before .before .before .before .before .before .before .before .first-five .kept .1 .1 .1 .1 .1 .1 .0
-
--- src/lib.rt:336:9
-same-length-12 : tie.Need-same-length-12
-same-length-12 c = c .before .before .before .before .before .before .before .before .before .before .before .before .before .before .before .before .last-two .kept .1 .1 .1 .1 .1 .1 .0 ∙ c .before .before .before .before .before .before .before .before .before .before .before .before .before .before .before .before .before .before .before .before .before .before .before .before .before .before .before .before .before .before .before .before .before .before .before .before .before .before .before .first-five .kept .1 .1 .1 .1 .1 .1 .1 .0
-
--- src/lib.rt:336:9
-same-length-13 : tie.Need-same-length-13
-same-length-13 c = c .before .before .before .before .before .before .before .before .before .before .before .before .before .before .before .before .last-two .kept .1 .1 .1 .1 .1 .1 .1 .0 ∙ c .before .before .before .before .before .before .before .before .before .before .before .before .before .before .before .before .before .before .before .before .before .before .before .before .before .before .before .before .before .before .before .before .before .before .before .before .before .before .before .first-five .kept .1 .1 .1 .1 .1 .1 .1 .1 .0
-
--- src/lib.rt:336:9
-same-length-14 : tie.Need-same-length-14
-same-length-14 c = c .before .before .before .before .before .before .before .before .before .before .before .before .before .before .before .before .last-two .kept .1 .1 .1 .1 .1 .1 .1 .1 .0 ∙ c .before .before .before .before .before .before .before .before .before .before .before .before .before .before .before .before .before .before .before .before .before .before .before .before .before .before .before .before .before .before .before .before .before .before .before .before .before .before .before .first-five .kept .1 .1 .1 .1 .1 .1 .1 .1 .1 .0
-
--- src/lib.rt:336:9
-returns-2 : tie.Need-returns-2
-returns-2 c =
-    let s = c .before .before .before .before .before .before .before .before .before .before .before .before .before .before .before .before .before .before .before .before .before .before .before .before .before .before .before .before .before .before .before .before .before .before .before .before .before .before .before .before .before .before .before .before .before .before .before .before .before .before .before .before .before .before .before .before .before in
-    let r = s .pre .0 in
-    let z = s .pre .1 in
-    λ t l.
-    let f = five-done _ _ _ _ (c .before .before .before .before .before .before .before .before .before .before .before .before .before .before .before .before .before .before .before .before .before .before .before .before .before .i .given .1) (c .before .before .before .before .before .before .before .before .before .before .before .before .before .before .before .before .before .before .before .before .before .before .before .before .before .before .before .before .before .before .before .before .before .before .before .before .before .before .before .first-five .ensures t l) in
-    let h = two-full _ _ _ _ (c .enum-told2 .given .1) (c .before .before .before .before .before .before .before .before .before .before .before .before .before .before .before .before .last-two .ensures _ (f .front) (fifth-count r t l)) in
-    let t0 = resolveTable (s .args .text .now) t in
-    any-right tooLarge (firstFive t0) (lastTwo (lastOf (firstFive t0))) h
-
--- src/lib.rt:294:1
-same-length-15 : tie.Need-same-length-15
-same-length-15 c = c .before .before .before .before .before .before .before .before .before .before .before .before .before .before .before .before .before .last-two .kept .0
-
--- src/lib.rt:294:1
-same-length-16 : tie.Need-same-length-16
-same-length-16 c = c .before .before .before .before .before .before .before .before .before .before .before .before .before .before .before .before .before .last-two .kept .1 .1 .1 .0 ∙ c .before .before .before .before .before .before .before .before .before .before .before .before .before .before .before .before .before .before .before .before .before .before .before .before .before .before .before .before .before .before .before .before .before .before .before .before .before .before .before .before .first-five .kept .1 .1 .1 .1 .0
-
--- src/lib.rt:294:1
-same-length-17 : tie.Need-same-length-17
-same-length-17 c = c .before .before .before .before .before .before .before .before .before .before .before .before .before .before .before .before .before .last-two .kept .1 .1 .1 .1 .0 ∙ c .before .before .before .before .before .before .before .before .before .before .before .before .before .before .before .before .before .before .before .before .before .before .before .before .before .before .before .before .before .before .before .before .before .before .before .before .before .before .before .before .first-five .kept .1 .1 .1 .1 .1 .0
-
--- src/lib.rt:294:1
-same-length-18 : tie.Need-same-length-18
-same-length-18 c = c .before .before .before .before .before .before .before .before .before .before .before .before .before .before .before .before .before .last-two .kept .1 .1 .1 .1 .1 .0 ∙ c .before .before .before .before .before .before .before .before .before .before .before .before .before .before .before .before .before .before .before .before .before .before .before .before .before .before .before .before .before .before .before .before .before .before .before .before .before .before .before .before .first-five .kept .1 .1 .1 .1 .1 .1 .0
-
--- src/lib.rt:294:1
-same-length-19 : tie.Need-same-length-19
-same-length-19 c = c .before .before .before .before .before .before .before .before .before .before .before .before .before .before .before .before .before .last-two .kept .1 .1 .1 .1 .1 .1 .0 ∙ c .before .before .before .before .before .before .before .before .before .before .before .before .before .before .before .before .before .before .before .before .before .before .before .before .before .before .before .before .before .before .before .before .before .before .before .before .before .before .before .before .first-five .kept .1 .1 .1 .1 .1 .1 .1 .0
-
--- src/lib.rt:294:1
-same-length-20 : tie.Need-same-length-20
-same-length-20 c = c .before .before .before .before .before .before .before .before .before .before .before .before .before .before .before .before .before .last-two .kept .1 .1 .1 .1 .1 .1 .1 .0 ∙ c .before .before .before .before .before .before .before .before .before .before .before .before .before .before .before .before .before .before .before .before .before .before .before .before .before .before .before .before .before .before .before .before .before .before .before .before .before .before .before .before .first-five .kept .1 .1 .1 .1 .1 .1 .1 .1 .0
-
--- src/lib.rt:294:1
-same-length-21 : tie.Need-same-length-21
-same-length-21 c = c .before .before .before .before .before .before .before .before .before .before .before .before .before .before .before .before .before .last-two .kept .1 .1 .1 .1 .1 .1 .1 .1 .0 ∙ c .before .before .before .before .before .before .before .before .before .before .before .before .before .before .before .before .before .before .before .before .before .before .before .before .before .before .before .before .before .before .before .before .before .before .before .before .before .before .before .before .first-five .kept .1 .1 .1 .1 .1 .1 .1 .1 .1 .0
-
--- src/lib.rt:294:1
-returns-3 : tie.Need-returns-3
-returns-3 c =
-    let s = c .before .before .before .before .before .before .before .before .before .before .before .before .before .before .before .before .before .before .before .before .before .before .before .before .before .before .before .before .before .before .before .before .before .before .before .before .before .before .before .before .before .before .before .before .before .before .before .before .before .before .before .before .before .before .before .before .before .before in
-    let r = s .pre .0 in
-    let z = s .pre .1 in
-    λ t l.
-    let f = five-done _ _ _ _ (c .before .before .before .before .before .before .before .before .before .before .before .before .before .before .before .before .before .before .before .before .before .before .before .before .before .before .i .given .1) (c .before .before .before .before .before .before .before .before .before .before .before .before .before .before .before .before .before .before .before .before .before .before .before .before .before .before .before .before .before .before .before .before .before .before .before .before .before .before .before .before .first-five .ensures t l) in
-    let h = two-done _ _ _ _ (c .before .m .given .1) (c .before .before .before .before .before .before .before .before .before .before .before .before .before .before .before .before .before .last-two .ensures _ (f .front) (fifth-count r t l)) in
-    all-ran (resolveTable (s .args .text .now) t) f h
+    let e = c .before .before .before .before .before .before .before .before .before in
+    let v = fourth (e .before .before .before .before .before .before .before .before) in
+    let r = third (v .before .before .before .before .before .before .before) in
+    let q = second (r .before .before .before .before .before .before .before) in
+    let p = first (q .before .before .before .before .before .before .before) in
+    let s = entry1 p in
+    λ t l. seven-answer (resolveTable (s .args .text .now) t) (p .pass .result) (v .turn .result) (e .restore .result) (c .joined .ensures) (stood1 p t l) (stood2 q t l) (stood3 r t l) (stood4 v t l) (stood5 e t l)
 
 pub all-steps-spec : {M : Type 1} → statement M
 all-steps-spec =
     tie.close
     (tie.spec
-    first-five-requires
-    enum-known-i
-    enum-told
+    pass-requires
+    two-steps-requires
+    two-steps-requires-2
+    turn-requires
+    restore-requires
+    joined-requires
     same-length
     same-length-2
     same-length-3
@@ -174,23 +152,4 @@ all-steps-spec =
     same-length-5
     same-length-6
     same-length-7
-    returns
-    last-two-requires
-    enum-known-m
-    enum-told-2
-    same-length-8
-    same-length-9
-    same-length-10
-    same-length-11
-    same-length-12
-    same-length-13
-    same-length-14
-    returns-2
-    same-length-15
-    same-length-16
-    same-length-17
-    same-length-18
-    same-length-19
-    same-length-20
-    same-length-21
-    returns-3)
+    returns)

@@ -1,30 +1,48 @@
 use mathlib.Core.Path.{sym}
-use native.Mathlib.Omega.{arith}
 use lib.Seq.{length-take-le}
-use Rattle.grammar.specs.Table.{packedFrom}
-use Rattle.turns.proofs.Fronts.{front-within}
-use Rattle.turns.proofs.Turns.{turn-passing, turn-answer, turn-rules, holds-part, copy-covers, copied-front, still-front}
+use Rattle.turns.proofs.Sizes.{sized-areas, sized-same, full-stays}
+use Rattle.turns.proofs.Turns.{stands-within, stands-held, stands-covers, stands-few, turn-passing, held-rows, still-stood, turned-stood}
 use borrow.Author.Needs.{needs}
 use Rattle.turns.proofs.turn.Statement.{statement}
 use Rattle.turns.proofs.turn.Tie as tie
 
+-- the function's entry, from where the place is known, and that, from after the scan
+abbrev started : tie.After-last → tie.Start
+started c = c .before .before .before .before .before .before .before .before .before .before .before .before
+
+abbrev known : tie.After-all-still → tie.After-last
+known c = c .before .before .before .before .before .before
+
+enum-known-last : tie.Need-enum-known-last
+enum-known-last c = search needs
+
+enum-told : tie.Need-enum-told
+enum-told c = search needs
+
+returns : tie.Need-returns
+returns c = λ gs t large g h n. full-stays _ h (c .enum-told .given .1)
+
 mul-words : tie.Need-mul-words
-mul-words c = search needs
+mul-words c =
+    let x = c .before .before in
+    let k = started x .pre .stands in
+    let a = stands-within k (x .last .given .1) .1 in
+    search (needs, a, k .works .one .rows)
 
 slice-aggregate-h : tie.Need-slice-aggregate-h
-slice-aggregate-h c = sym (length-take-le _ _ (turn-rules (c .before .before .before .before .before .before .before .before .before .before .before .before .pre .0)))
+slice-aggregate-h c = let x = c .before .before .before in sym (length-take-le _ _ (stands-within (started x .pre .stands) (x .last .given .1) .0))
 
 slice-aggregate-r : tie.Need-slice-aggregate-r
-slice-aggregate-r c = let k = c .before .before .before .before .before .before .before .before .before .before .before .before .before .pre .0 in sym (length-take-le _ _ (front-within (k .table) (k .front) .1))
+slice-aggregate-r c = let x = c .before .before .before .before in sym (length-take-le _ _ (stands-within (started x .pre .stands) (x .last .given .1) .1))
 
 slice-aggregate-t : tie.Need-slice-aggregate-t
-slice-aggregate-t c = let k = c .before .before .before .before .before .before .before .before .before .before .before .before .before .before .pre .0 in sym (length-take-le _ _ (front-within (k .table) (k .front) .2))
+slice-aggregate-t c = let x = c .before .before .before .before .before in sym (length-take-le _ _ (stands-within (started x .pre .stands) (x .last .given .1) .2))
 
 all-still-requires : tie.Need-all-still-requires
-all-still-requires c κs = let k = c .before .before .before .before .before .before .before .before .before .before .before .before .before .before .pre .0 in record { table = packedFrom 0 (k .table); holds = holds-part (k .table) _ (k .count) (k .front) }
+all-still-requires c κs = let x = c .before .before .before .before .before in stands-held (started x .pre .stands) (x .last .given .1)
 
 put-out-requires : tie.Need-put-out-requires
-put-out-requires c κs = let k = c .before .before .before .before .before .before .before .before .before .before .before .before .before .before .before .before .before .before .before .pre .0 in copy-covers (k .table) (k .front) _ (k .count) _ _ _ (k .room)
+put-out-requires c κs = let x = c .before .before .before .before .before .before .before .before .before .before in stands-covers (started x .pre .stands) (x .last .given .1)
 
 same-length : tie.Need-same-length
 same-length c = c .before .before .before .before .before .before .put-out .kept .1 .1 .1 .1 .1 .0
@@ -35,11 +53,20 @@ same-length-2 c = c .before .before .before .before .before .before .put-out .ke
 same-length-3 : tie.Need-same-length-3
 same-length-3 c = c .before .before .before .before .before .before .put-out .kept .1 .1 .1 .1 .1 .1 .1 .0
 
-returns : tie.Need-returns
-returns c = λ gs t g f e. still-front t f _ e _ _ _ _ (λ h. c .before .before .before .before .before .before .before .before .before .before .before .all-still .ensures (c .before .before .before .before .before .before .before .before .before .before .if1 .taken) _ _ h) (copied-front t f _ e _ _ _ _ _ _ (c .before .before .before .before .before .before .put-out .ensures .0) (c .before .before .before .before .before .before .put-out .ensures .1 .0) (c .before .before .before .before .before .before .put-out .ensures .1 .1))
+returns-2 : tie.Need-returns-2
+returns-2 c =
+    let y = c .before .before .before .before .before .before in
+    let x = known (y .before .before .before .before .before) in
+    let e = x .last .given .1 in
+    let z = started x .pre .stands .works in
+    λ gs t large g h n. still-stood e h n _ _ _ _ (sized-same (y .put-out .kept .1 .1 .1 .1 .1 .0) (y .put-out .kept .1 .1 .1 .1 .1 .1 .0) (y .put-out .kept .1 .1 .1 .1 .1 .1 .1 .0) (z .other)) (y .put-out .ensures .0) (y .put-out .ensures .1 .0) (y .put-out .ensures .1 .1) (y .before .before .before .before .before .all-still .ensures (y .before .before .before .before .if1 .taken) _ _ (held-rows e h n))
 
 pass-requires : tie.Need-pass-requires
-pass-requires c κs = let s = c .before .before .before .before .before .before .before .before .before .before .before .before .before .before .before .before .before .before .before in let k = s .pre .0 in (turn-passing k, (omega (arith, length-take-le (s .args .count) (s .args .heads .now) (turn-rules k), k .count, k .room .rules), s .pre .1))
+pass-requires c κs =
+    let x = c .before .before .before .before .before .before .before .before .before .before in
+    let e = x .last .given .1 in
+    let k = started x .pre in
+    (turn-passing k e, (stands-few (k .stands) e, sized-areas (k .stands .works .other)))
 
 same-length-4 : tie.Need-same-length-4
 same-length-4 c = c .before .before .before .before .before .before .pass .kept .1 .1 .1 .1 .1 .1 .1 .1 .0
@@ -50,13 +77,21 @@ same-length-5 c = c .before .before .before .before .before .before .pass .kept 
 same-length-6 : tie.Need-same-length-6
 same-length-6 c = c .before .before .before .before .before .before .pass .kept .1 .1 .1 .1 .1 .1 .1 .1 .1 .1 .0
 
-returns-2 : tie.Need-returns-2
-returns-2 c = λ gs t g f e. turn-answer (c .before .before .before .before .before .before .pass .result) _ t _ _ _ _ _ _ _ f e (λ h. c .before .before .before .before .before .before .pass .ensures gs _ g h)
+returns-3 : tie.Need-returns-3
+returns-3 c =
+    let y = c .before .before .before .before .before .before in
+    let x = known (y .before .before .before .before .before) in
+    let e = x .last .given .1 in
+    let z = started x .pre .stands .works in
+    λ gs t large g h n. turned-stood e h n (y .pass .result) _ (z .one) (z .other) (sized-same (y .pass .kept .1 .1 .1 .1 .1 .1 .1 .1 .0) (y .pass .kept .1 .1 .1 .1 .1 .1 .1 .1 .1 .0) (y .pass .kept .1 .1 .1 .1 .1 .1 .1 .1 .1 .1 .0) (z .other)) (y .pass .ensures gs _ g (held-rows e h n))
 
 pub turn-spec : {M : Type 1} → statement M
 turn-spec =
     tie.close
     (tie.spec
+    enum-known-last
+    enum-told
+    returns
     mul-words
     slice-aggregate-h
     slice-aggregate-r
@@ -66,9 +101,9 @@ turn-spec =
     same-length
     same-length-2
     same-length-3
-    returns
+    returns-2
     pass-requires
     same-length-4
     same-length-5
     same-length-6
-    returns-2)
+    returns-3)

@@ -15,6 +15,40 @@ Inv-loop rows base root out₀ lits₀ p s₀ i₀ out lits s i = Up rows out₀
 abbrev μ-loop : tie.MeasureT-loop
 μ-loop rows base root out₀ lits₀ p s₀ i₀ out lits s i = root - i
 
+-- the points that are looked back to
+abbrev enum-told-to-in-loop : tie.After-enum-told Inv-loop μ-loop → tie.In-loop Inv-loop μ-loop
+enum-told-to-in-loop c = c .before .before .before .before .before .before .before .before .before .before .before .before
+
+abbrev enum-told-to-at-loop : tie.After-enum-told Inv-loop μ-loop → tie.At-loop Inv-loop μ-loop
+enum-told-to-at-loop c = (enum-told-to-in-loop c) .before
+
+abbrev in-loop-to-start : tie.In-loop Inv-loop μ-loop → tie.Start Inv-loop μ-loop
+in-loop-to-start c = c .before .before .before .before .before
+
+abbrev enum-told-to-start : tie.After-enum-told Inv-loop μ-loop → tie.Start Inv-loop μ-loop
+enum-told-to-start c = in-loop-to-start (enum-told-to-in-loop c)
+
+abbrev known-told-to-node-arg : tie.After-known-told Inv-loop μ-loop → tie.After-node-arg Inv-loop μ-loop
+known-told-to-node-arg c = c .before .before .before .before .before .before .before .before .before .before .before .before
+
+abbrev known-told-to-at-loop : tie.After-known-told Inv-loop μ-loop → tie.At-loop Inv-loop μ-loop
+known-told-to-at-loop c = (known-told-to-node-arg c) .before .before
+
+abbrev known-told-to-in-loop : tie.After-known-told Inv-loop μ-loop → tie.In-loop Inv-loop μ-loop
+known-told-to-in-loop c = (known-told-to-node-arg c) .before
+
+abbrev node-arg-to-start : tie.After-node-arg Inv-loop μ-loop → tie.Start Inv-loop μ-loop
+node-arg-to-start c = c .before .before .before .before .before .before
+
+abbrev known-told-to-start : tie.After-known-told Inv-loop μ-loop → tie.Start Inv-loop μ-loop
+known-told-to-start c = node-arg-to-start (known-told-to-node-arg c)
+
+abbrev shared-slice-known3-to-start : tie.After-shared-slice-known3 Inv-loop μ-loop → tie.Start Inv-loop μ-loop
+shared-slice-known3-to-start c = c .before .before .before .before .before .before .before .before .before
+
+abbrev shared-slice-known4-to-start : tie.After-shared-slice-known4 Inv-loop μ-loop → tie.Start Inv-loop μ-loop
+shared-slice-known4-to-start c = c .before .before .before .before .before .before .before .before .before .before
+
 loop-holds : tie.Need-loop-holds Inv-loop μ-loop
 loop-holds c = let s = c .before .before .before .pre in up-none (omega (arith, s .1 .0 (s .0 .tree) (s .0 .at)))
 
@@ -37,20 +71,20 @@ mul-node-2 : tie.Need-mul-node-2 Inv-loop μ-loop
 mul-node-2 c = omega (arith, root (c .before .before .before .before .before .before .before .before .pre .0 .at) .inside, c .before .before .before .loop-test .taken, c .before .before .before .before .before .before .before .before .good)
 
 shared-slice-read-node-2 : tie.Need-shared-slice-read-node-2 Inv-loop μ-loop
-shared-slice-read-node-2 c = omega (arith, root (c .before .before .before .before .before .before .before .before .before .pre .0 .at) .inside, c .before .before .before .before .loop-test .taken)
+shared-slice-read-node-2 c = omega (arith, root ((shared-slice-known3-to-start c) .pre .0 .at) .inside, c .before .before .before .before .loop-test .taken)
 
 add-node-2 : tie.Need-add-node-2 Inv-loop μ-loop
-add-node-2 c = omega (arith, root (c .before .before .before .before .before .before .before .before .before .pre .0 .at) .inside, c .before .before .before .before .loop-test .taken, c .before .before .before .before .before .before .before .before .before .good)
+add-node-2 c = omega (arith, root ((shared-slice-known3-to-start c) .pre .0 .at) .inside, c .before .before .before .before .loop-test .taken, (shared-slice-known3-to-start c) .good)
 
 mul-node-3 : tie.Need-mul-node-3 Inv-loop μ-loop
-mul-node-3 c = omega (arith, root (c .before .before .before .before .before .before .before .before .before .pre .0 .at) .inside, c .before .before .before .before .loop-test .taken, c .before .before .before .before .before .before .before .before .before .good)
+mul-node-3 c = omega (arith, root ((shared-slice-known3-to-start c) .pre .0 .at) .inside, c .before .before .before .before .loop-test .taken, (shared-slice-known3-to-start c) .good)
 
 shared-slice-read-node-3 : tie.Need-shared-slice-read-node-3 Inv-loop μ-loop
-shared-slice-read-node-3 c = omega (arith, root (c .before .before .before .before .before .before .before .before .before .before .pre .0 .at) .inside, c .before .before .before .before .before .loop-test .taken)
+shared-slice-read-node-3 c = omega (arith, root ((shared-slice-known4-to-start c) .pre .0 .at) .inside, c .before .before .before .before .before .loop-test .taken)
 
 node-requires : tie.Need-node-requires Inv-loop μ-loop
 unfolding kindAt xAt yAt
-node-requires c κs = let s = c .before .before .before .before .before .before .before .before .before .before .pre in up-headed (c .before .before .before .before .before .before .loop .inv) (s .0) (s .1 .0) (c .before .before .before .before .before .loop-test .taken) (s .1 .1)
+node-requires c κs = let s = (shared-slice-known4-to-start c) .pre in up-headed (c .before .before .before .before .before .before .loop .inv) (s .0) (s .1 .0) (c .before .before .before .before .before .loop-test .taken) (s .1 .1)
 
 enum-known-z : tie.Need-enum-known-z Inv-loop μ-loop
 enum-known-z c = search needs
@@ -59,21 +93,21 @@ enum-told : tie.Need-enum-told Inv-loop μ-loop
 enum-told c = search needs
 
 same-length : tie.Need-same-length Inv-loop μ-loop
-same-length c = c .before .before .before .before .before .before .node .kept .0 ∙ c .before .before .before .before .before .before .before .before .before .before .before .before .before .loop .inv .words
+same-length c = c .before .before .before .before .before .before .node .kept .0 ∙ (enum-told-to-at-loop c) .loop .inv .words
 
 same-length-2 : tie.Need-same-length-2 Inv-loop μ-loop
-same-length-2 c = c .before .before .before .before .before .before .node .kept .1 .0 ∙ c .before .before .before .before .before .before .before .before .before .before .before .before .before .loop .inv .bytes
+same-length-2 c = c .before .before .before .before .before .before .node .kept .1 .0 ∙ (enum-told-to-at-loop c) .loop .inv .bytes
 
 returns : tie.Need-returns Inv-loop μ-loop
 unfolding kindAt xAt yAt
-returns c = let s = c .before .before .before .before .before .before .before .before .before .before .before .before .before .before .before .before .before .pre in λ r a. up-full (c .before .before .before .before .before .before .before .before .before .before .before .before .before .loop .inv) (s .0) (s .1 .0) (c .before .before .before .before .before .before .before .before .before .before .before .before .loop-test .taken) (c .before .before .before .before .before .before .node .last .0) (c .before .before .before .before .before .before .node .last .1 .0) (c .before .before .before .before .before .before .node .result) (c .before .before .before .before .before .before .node .ensures) (c .enum-told .given .1) r a
+returns c = let s = (enum-told-to-start c) .pre in λ r a. up-full ((enum-told-to-at-loop c) .loop .inv) (s .0) (s .1 .0) ((enum-told-to-in-loop c) .loop-test .taken) (c .before .before .before .before .before .before .node .last .0) (c .before .before .before .before .before .before .node .last .1 .0) (c .before .before .before .before .before .before .node .result) (c .before .before .before .before .before .before .node .ensures) (c .enum-told .given .1) r a
 
 loop-less : tie.Need-loop-less Inv-loop μ-loop
-loop-less c = omega (arith, c .before .before .before .before .before .before .before .before .before .before .before .before .before .loop-test .taken)
+loop-less c = omega (arith, (known-told-to-in-loop c) .loop-test .taken)
 
 loop-again : tie.Need-loop-again Inv-loop μ-loop
 unfolding kindAt xAt yAt
-loop-again c = let s = c .before .before .before .before .before .before .before .before .before .before .before .before .before .before .before .before .before .before .pre in up-more (c .before .before .before .before .before .before .before .before .before .before .before .before .before .before .loop .inv) (s .0) (s .1 .0) (c .before .before .before .before .before .before .before .before .before .before .before .before .before .loop-test .taken) (c .before .before .before .before .before .before .before .node .last .0) (c .before .before .before .before .before .before .before .node .last .1 .0) (c .before .before .before .before .before .before .before .node .result) (c .before .before .before .before .before .before .before .node .ensures) (c .before .z .given .1) (c .before .before .before .before .before .before .before .node .kept .0) (c .before .before .before .before .before .before .before .node .kept .1 .0)
+loop-again c = let s = (known-told-to-start c) .pre in up-more ((known-told-to-at-loop c) .loop .inv) (s .0) (s .1 .0) ((known-told-to-in-loop c) .loop-test .taken) (c .before .before .before .before .before .before .before .node .last .0) (c .before .before .before .before .before .before .before .node .last .1 .0) (c .before .before .before .before .before .before .before .node .result) (c .before .before .before .before .before .before .before .node .ensures) (c .before .z .given .1) (c .before .before .before .before .before .before .before .node .kept .0) (c .before .before .before .before .before .before .before .node .kept .1 .0)
 
 same-length-3 : tie.Need-same-length-3 Inv-loop μ-loop
 same-length-3 c = c .before .loop .inv .words

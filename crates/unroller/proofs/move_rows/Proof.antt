@@ -3,6 +3,7 @@ use mathlib.Core.List.{List}
 use Prim.Native.Nat.{ℕ, _+_, _-_, _*_, _≤_}
 use native.Mathlib.Omega.{arith}
 use lib.ListN.{length}
+use Rattle.grammar.specs.Numbers.{rowWidth}
 use Rattle.writing.specs.Writes.{stored}
 use Rattle.unroller.specs.Copies.{moved, Movable}
 use Rattle.unroller.proofs.Moves.{front-movable, move-more}
@@ -10,7 +11,7 @@ use Rattle.unroller.proofs.move_rows.Statement.{statement}
 use Rattle.unroller.proofs.move_rows.Tie as tie
 
 abbrev Inv-loop : tie.InvT-loop
-Inv-loop out₀ i n j d k₀ out k = (k ≤ n) × (length out ≡ length out₀) × (out ≡ stored out₀ (j * 4) (moved d out₀ i k))
+Inv-loop out₀ i n j d k₀ out k = (k ≤ n) × (length out ≡ length out₀) × (out ≡ stored out₀ (j * rowWidth) (moved d out₀ i k))
 
 abbrev μ-loop : tie.MeasureT-loop
 μ-loop out₀ i n j d k₀ out k = n - k

@@ -12,6 +12,40 @@ use borrow.Author.Needs.{needs}
 use Rattle.unroller.proofs.spread.Statement.{statement}
 use Rattle.unroller.proofs.spread.Tie as tie
 
+-- the points that are looked back to
+abbrev close-arg-to-else1 : tie.After-close-arg → tie.Else1
+close-arg-to-else1 c = c .before .before .before .before .before .before .before .before .before .before
+
+abbrev close-arg-to-hold : tie.After-close-arg → tie.After-hold
+close-arg-to-hold c = c .before .before .before .before .before .before .before .before .before .before .before
+
+abbrev struct-known2-to-start : tie.After-struct-known2 → tie.Start
+struct-known2-to-start c = c .before .before .before .before
+
+abbrev close-arg-to-struct-known2 : tie.After-close-arg → tie.After-struct-known2
+close-arg-to-struct-known2 c = c .before .before .before .before .before .before .before .before .before .before .before .before
+
+abbrev close-arg-to-start : tie.After-close-arg → tie.Start
+close-arg-to-start c = struct-known2-to-start (close-arg-to-struct-known2 c)
+
+abbrev lay-arg-to-start : tie.After-lay-arg → tie.Start
+lay-arg-to-start c = c .before .before .before .before .before .before .before
+
+abbrev slice-known5-to-lay-arg : tie.After-slice-known5 → tie.After-lay-arg
+slice-known5-to-lay-arg c = c .before .before .before .before .before .before .before .before .before .before .before .before
+
+abbrev slice-known5-to-else1 : tie.After-slice-known5 → tie.Else1
+slice-known5-to-else1 c = (slice-known5-to-lay-arg c) .before
+
+abbrev slice-known5-to-hold : tie.After-slice-known5 → tie.After-hold
+slice-known5-to-hold c = (slice-known5-to-lay-arg c) .before .before
+
+abbrev slice-known5-to-lay : tie.After-slice-known5 → tie.After-lay
+slice-known5-to-lay c = c .before .before .before .before .before .before .before .before .before .before
+
+abbrev slice-known5-to-start : tie.After-slice-known5 → tie.Start
+slice-known5-to-start c = lay-arg-to-start (slice-known5-to-lay-arg c)
+
 sub-hold : tie.Need-sub-hold
 sub-hold c = let s = c .before .before .pre .source in omega (arith, source-rows s, s .rows)
 
@@ -50,9 +84,9 @@ sub-others c = search needs
 
 close-requires : tie.Need-close-requires
 close-requires c κs =
-    let p = c .before .before .before .before .before .before .before .before .before .before .before .before .before .before .before .before .pre in
-    let n = c .before .before .before .before .before .before .before .before .before .before .before .before .before .before .before .before .args .n in
-    let f = holds-fit n (p .source) (p .least) (tells-yes (not-false (c .before .before .before .before .before .before .before .before .before .before .before .hold .result) (c .before .before .before .before .before .before .before .before .before .before .if1 .left)) (c .before .before .before .before .before .before .before .before .before .before .before .hold .ensures)) in
+    let p = (close-arg-to-start c) .pre in
+    let n = (close-arg-to-start c) .args .n in
+    let f = holds-fit n (p .source) (p .least) (tells-yes (not-false ((close-arg-to-hold c) .hold .result) ((close-arg-to-else1 c) .if1 .left)) ((close-arg-to-hold c) .hold .ensures)) in
     let k : countOf n - 1 ≡ length (itemsOf n (p .tree)) - 1 = omega (arith, items-count n (p .tree)) in
     (record { op = Seq; is = refl }, closable (itemsOf n (p .tree)) (c .before .before .before .before .before .before .before .lay .ensures (p .tree) (p .source)) (some n (p .source) (p .least)) f k (p .areas .words))
 
@@ -64,11 +98,11 @@ same-length-2 c = search needs
 
 returns-2 : tie.Need-returns-2
 returns-2 c = λ e s.
-    let p = c .before .before .before .before .before .before .before .before .before .before .before .before .before .before .before .before .before .before .before .pre in
-    let n = c .before .before .before .before .before .before .before .before .before .before .before .before .before .before .before .before .before .before .before .args .n in
-    let f = holds-fit n s (p .least) (tells-yes (not-false (c .before .before .before .before .before .before .before .before .before .before .before .before .before .before .hold .result) (c .before .before .before .before .before .before .before .before .before .before .before .before .before .if1 .left)) (c .before .before .before .before .before .before .before .before .before .before .before .before .before .before .hold .ensures)) in
+    let p = (slice-known5-to-start c) .pre in
+    let n = (slice-known5-to-start c) .args .n in
+    let f = holds-fit n s (p .least) (tells-yes (not-false ((slice-known5-to-hold c) .hold .result) ((slice-known5-to-else1 c) .if1 .left)) ((slice-known5-to-hold c) .hold .ensures)) in
     let k : countOf n - 1 ≡ length (itemsOf n e) - 1 = omega (arith, items-count n e) in
-    nested-answer (itemsOf n e) (c .before .before .before .before .before .before .before .before .before .before .lay .ensures e s) (some n s (p .least)) f (c .before .before .close .result) _ k (c .before .before .close .ensures)
+    nested-answer (itemsOf n e) ((slice-known5-to-lay c) .lay .ensures e s) (some n s (p .least)) f (c .before .before .close .result) _ k (c .before .before .close .ensures)
 
 pub spread-spec : {M : Type 1} → statement M
 spread-spec =

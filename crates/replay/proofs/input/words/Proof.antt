@@ -14,8 +14,8 @@ Inv-loop b from into₀ n at₀ i₀ into at i = (i ≤ n) × (at ≡ from + 4 *
 abbrev μ-loop : tie.MeasureT-loop
 μ-loop b from into₀ n at₀ i₀ into at i = n - i
 
-loop-holds : tie.Need-loop-holds Inv-loop μ-loop
-loop-holds c = search needs
+holds : tie.Need-loop-holds Inv-loop μ-loop
+holds c = search needs
 
 word-at-requires : tie.Need-word-at-requires Inv-loop μ-loop
 word-at-requires c κs = search needs
@@ -23,8 +23,8 @@ word-at-requires c κs = search needs
 mul-into : tie.Need-mul-into Inv-loop μ-loop
 mul-into c = search needs
 
-slice-write-into : tie.Need-slice-write-into Inv-loop μ-loop
-slice-write-into c = search needs
+write : tie.Need-slice-write-into Inv-loop μ-loop
+write c = search needs
 
 add-at : tie.Need-add-at Inv-loop μ-loop
 add-at c = search needs
@@ -32,11 +32,11 @@ add-at c = search needs
 add-i : tie.Need-add-i Inv-loop μ-loop
 add-i c = search needs
 
-loop-less : tie.Need-loop-less Inv-loop μ-loop
-loop-less c = search needs
+less : tie.Need-loop-less Inv-loop μ-loop
+less c = search needs
 
-loop-again : tie.Need-loop-again Inv-loop μ-loop
-loop-again c = simp length-set (omega arith)
+again : tie.Need-loop-again Inv-loop μ-loop
+again c = simp length-set (omega arith)
 
 same-length : tie.Need-same-length Inv-loop μ-loop
 same-length c = search needs
@@ -48,16 +48,4 @@ returns c =
 pub words-spec : {M : Type 1} → statement M
 words-spec =
     tie.close
-    (tie.spec
-    Inv-loop
-    μ-loop
-    loop-holds
-    word-at-requires
-    mul-into
-    slice-write-into
-    add-at
-    add-i
-    loop-less
-    loop-again
-    same-length
-    returns)
+    (tie.spec Inv-loop μ-loop holds word-at-requires mul-into write add-at add-i less again same-length returns)

@@ -17,14 +17,14 @@ mul-room c = search needs
 room-requires : tie.Need-room-requires Inv-loop μ-loop
 room-requires c κs = search needs
 
-loop-holds : tie.Need-loop-holds Inv-loop μ-loop
-loop-holds c = search needs
+holds : tie.Need-loop-holds Inv-loop μ-loop
+holds c = search needs
 
 mul-put-word : tie.Need-mul-put-word Inv-loop μ-loop
 mul-put-word c = search needs
 
-shared-slice-read-put-word : tie.Need-shared-slice-read-put-word Inv-loop μ-loop
-shared-slice-read-put-word c = search needs
+read : tie.Need-shared-slice-read-put-word Inv-loop μ-loop
+read c = search needs
 
 put-word-requires : tie.Need-put-word-requires Inv-loop μ-loop
 put-word-requires c κs = search needs
@@ -35,11 +35,11 @@ add-at c = search needs
 add-i : tie.Need-add-i Inv-loop μ-loop
 add-i c = search needs
 
-loop-less : tie.Need-loop-less Inv-loop μ-loop
-loop-less c = search needs
+less : tie.Need-loop-less Inv-loop μ-loop
+less c = search needs
 
-loop-again : tie.Need-loop-again Inv-loop μ-loop
-loop-again c = search needs
+again : tie.Need-loop-again Inv-loop μ-loop
+again c = search needs
 
 same-length : tie.Need-same-length Inv-loop μ-loop
 same-length c = search needs
@@ -50,18 +50,4 @@ returns c = search needs
 pub put-words-spec : {M : Type 1} → statement M
 put-words-spec =
     tie.close
-    (tie.spec
-    Inv-loop
-    μ-loop
-    mul-room
-    room-requires
-    loop-holds
-    mul-put-word
-    shared-slice-read-put-word
-    put-word-requires
-    add-at
-    add-i
-    loop-less
-    loop-again
-    same-length
-    returns)
+    (tie.spec Inv-loop μ-loop mul-room room-requires holds mul-put-word read put-word-requires add-at add-i less again same-length returns)

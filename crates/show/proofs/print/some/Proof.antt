@@ -9,8 +9,8 @@ Inv-loop rows first from to literals i₀ i = i ≤ to
 abbrev μ-loop : tie.MeasureT-loop
 μ-loop rows first from to literals i₀ i = to - i
 
-loop-holds : tie.Need-loop-holds Inv-loop μ-loop
-loop-holds c = search needs
+holds : tie.Need-loop-holds Inv-loop μ-loop
+holds c = search needs
 
 mul-row : tie.Need-mul-row Inv-loop μ-loop
 mul-row c = search needs
@@ -24,26 +24,14 @@ row-requires c κs = search needs
 add-i : tie.Need-add-i Inv-loop μ-loop
 add-i c = search needs
 
-loop-less : tie.Need-loop-less Inv-loop μ-loop
-loop-less c = search needs
+less : tie.Need-loop-less Inv-loop μ-loop
+less c = search needs
 
-loop-again : tie.Need-loop-again Inv-loop μ-loop
-loop-again c = search needs
+again : tie.Need-loop-again Inv-loop μ-loop
+again c = search needs
 
 returns : tie.Need-returns Inv-loop μ-loop
 returns c = search needs
 
 pub some-spec : {M : Type 1} → statement M
-some-spec =
-    tie.close
-    (tie.spec
-    Inv-loop
-    μ-loop
-    loop-holds
-    mul-row
-    add-row
-    row-requires
-    add-i
-    loop-less
-    loop-again
-    returns)
+some-spec = tie.close (tie.spec Inv-loop μ-loop holds mul-row add-row row-requires add-i less again returns)

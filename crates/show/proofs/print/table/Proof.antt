@@ -10,8 +10,8 @@ Inv-loop rules rows literals n first₀ i₀ first i = (i ≤ n) × (first ≤ l
 abbrev μ-loop : tie.MeasureT-loop
 μ-loop rules rows literals n first₀ i₀ first i = n - i
 
-loop-holds : tie.Need-loop-holds Inv-loop μ-loop
-loop-holds c = search needs
+holds : tie.Need-loop-holds Inv-loop μ-loop
+holds c = search needs
 
 mul-rule : tie.Need-mul-rule Inv-loop μ-loop
 mul-rule c = search needs
@@ -22,16 +22,14 @@ rule-requires c κs = search needs
 add-i : tie.Need-add-i Inv-loop μ-loop
 add-i c = search needs
 
-loop-less : tie.Need-loop-less Inv-loop μ-loop
-loop-less c = search needs
+less : tie.Need-loop-less Inv-loop μ-loop
+less c = search needs
 
-loop-again : tie.Need-loop-again Inv-loop μ-loop
-loop-again c = search needs
+again : tie.Need-loop-again Inv-loop μ-loop
+again c = search needs
 
 returns : tie.Need-returns Inv-loop μ-loop
 returns c = search needs
 
 pub table-spec : {M : Type 1} → statement M
-table-spec =
-    tie.close
-    (tie.spec Inv-loop μ-loop loop-holds mul-rule rule-requires add-i loop-less loop-again returns)
+table-spec = tie.close (tie.spec Inv-loop μ-loop holds mul-rule rule-requires add-i less again returns)

@@ -1,0 +1,2 @@
+-- What a call can be refused for before the first step.
+pub mod Ready
