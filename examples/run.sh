@@ -4,7 +4,7 @@ set -euo pipefail
 here=$(cd "$(dirname "$0")" && pwd)
 library=${1:-$here/../target/staticlib/libarvedun.a}
 [ "$(uname -m)" = x86_64 ] || { echo "examples: skipped, the library is for x86-64"; exit 0; }
-[ -f "$library" ] || (cd "$here/.." && rt staticlib arvedun >/dev/null)
+[ -f "$library" ] || (cd "$here/.." && said=$(rt staticlib arvedun 2>&1)) || { echo "examples: rt staticlib arvedun failed" >&2; exit 1; }
 tmp=$(mktemp -d); trap 'rm -rf "$tmp"' EXIT
 cp "$library" "$tmp/libarvedun.a"
 same() { diff "$here/expected.txt" "$tmp/$1" || { echo "$1: not as expected"; exit 1; }; echo "$1: as expected"; }

@@ -19,7 +19,7 @@ extern "C" {
 #define ARVEDUN_TEXT_BYTES 65536
 #define ARVEDUN_MARK_WORDS 1024
 
-/* The stack that the calling thread must have left. The most that was seen is 886,560 bytes, on 2,047 nested rows of two
+/* The stack that the calling thread must have left. The most that was seen is 886,576 bytes, on 2,047 nested rows of two
    children each with something to rewrite below them. */
 #define ARVEDUN_STACK_BYTES (1024 * 1024) /* 1 MiB */
 

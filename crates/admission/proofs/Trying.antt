@@ -1,18 +1,17 @@
 -- The refusals before the first step, in their order. Assumes nothing.
 use mathlib.Core.Path.{_≡_, refl, sym, ap, _∙_, subst}
-use mathlib.Core.Bool.{Bool, true, false, not, _||_}
+use mathlib.Core.Bool.{Bool, true, false, _||_}
 use mathlib.Core.List.{List, [], _∷_}
-use Prim.Native.Nat.{ℕ, _*_, _%_, _≤_, _<_}
+use Prim.Native.Nat.{ℕ, _*_, _≤_, _<_}
 use native.Mathlib.Omega.{arith}
-use borrow.Author.Tests.{ltb-false, le-ltb, lt-ltb}
+use borrow.Author.Tests.{le-ltb, lt-ltb}
 use lib.ListN.{length}
-use lib.Dec.{ltb, eqb}
-use Rattle.grammar.specs.Numbers.{ruleWidth, rowWidth}
+use lib.Dec.{ltb}
 use Rattle.grammar.specs.Basic.{Bytes, any}
 use Rattle.grammar.specs.Rows.{Span}
 use Rattle.grammar.specs.Table.{Table, Words, rowCount, tableText, ruleWords, rowWords, resolveTable}
 use Rattle.grammar.specs.Reading.{inputKinds}
-use Rattle.grammar.specs.Refusals.{badCounts, zeroCounts, meets, tooLarge}
+use Rattle.grammar.specs.Refusals.{maxRows, maxText, fullRules, fullRows, zeroCounts, meets, tooLarge}
 use Rattle.grammar.specs.Optimize.{stages, finish, ofWords, refuseIf, refused}
 use Rattle.grammar.proofs.Logic.{or-left, or-right}
 use Rattle.grammar.proofs.Words.{table-is}
@@ -28,19 +27,19 @@ use Rattle.skipper.proofs.Words.{same-words}
 use Rattle.refusals.specs.Check.{lent, Passed, Checked}
 use Rattle.refusals.specs.declared.Verdict.{Verdict}
 use Rattle.refusals.specs.declared.Verdict.the-variants.{Fine, Refused}
+use Rattle.refusals.proofs.Verdicts.{counts}
 use Rattle.refusals.proofs.Answers.{call-refused, call-passed}
-use Rattle.refusals.proofs.Fours.{neither-left, neither-right}
 use Rattle.admission.specs.Ready.{shortOf, Ready, Tried, Admitted}
 
 -- refusal 1, test by test
-pub short-rules : (a b c : ℕ) → a < 1024 → true ≡ shortOf a b c
-short-rules a b c h = sym (or-left (ltb a 1024) _ (lt-ltb a 1024 h))
+pub short-rules : (a b c : ℕ) → a < fullRules → true ≡ shortOf a b c
+short-rules a b c h = sym (or-left (ltb a fullRules) _ (lt-ltb a fullRules h))
 
-pub short-rows : (a b c : ℕ) → b < 16384 → true ≡ shortOf a b c
-short-rows a b c h = sym (or-right (ltb a 1024) _ (or-left (ltb b 16384) _ (lt-ltb b 16384 h)))
+pub short-rows : (a b c : ℕ) → b < fullRows → true ≡ shortOf a b c
+short-rows a b c h = sym (or-right (ltb a fullRules) _ (or-left (ltb b fullRows) _ (lt-ltb b fullRows h)))
 
-pub short-text : (a b c : ℕ) → 1024 ≤ a → 16384 ≤ b → ltb c 65536 ≡ shortOf a b c
-short-text a b c h k = last (ltb a 1024) (ltb b 16384) (ltb c 65536) (le-ltb a 1024 h) (le-ltb b 16384 k)
+pub short-text : (a b c : ℕ) → fullRules ≤ a → fullRows ≤ b → ltb c maxText ≡ shortOf a b c
+short-text a b c h k = last (ltb a fullRules) (ltb b fullRows) (ltb c maxText) (le-ltb a fullRules h) (le-ltb b fullRows k)
   where
     last : (x y z : Bool) → x ≡ false → y ≡ false → z ≡ (x || (y || z))
     last x y z f g = rw (f, g) refl
@@ -62,13 +61,13 @@ pub resolved-count : (text : Bytes) (t : Table Span) → rowCount (resolveTable 
 resolved-count text [] = refl
 resolved-count text (r ∷ t) = omega (arith, size-resolve text (r .body), resolved-count text t)
 
-text-large : (t : Table Bytes) → 65536 < length (tableText t) → tooLarge t ≡ true
+text-large : (t : Table Bytes) → maxText < length (tableText t) → tooLarge t ≡ true
 unfolding tooLarge
-text-large t h = or-right (ltb 4096 (rowCount t)) (ltb 65536 (length (tableText t))) (lt-ltb 65536 (length (tableText t)) h)
+text-large t h = or-right (ltb maxRows (rowCount t)) (ltb maxText (length (tableText t))) (lt-ltb maxText (length (tableText t)) h)
 
-text-fits : (t : Table Bytes) → rowCount t ≤ 4096 → length (tableText t) ≤ 65536 → tooLarge t ≡ false
+text-fits : (t : Table Bytes) → rowCount t ≤ maxRows → length (tableText t) ≤ maxText → tooLarge t ≡ false
 unfolding tooLarge
-text-fits t a b = rw (le-ltb 4096 (rowCount t) a, le-ltb 65536 (length (tableText t)) b) refl
+text-fits t a b = rw (le-ltb maxRows (rowCount t) a, le-ltb maxText (length (tableText t)) b) refl
 
 first-stage : (t : Table Bytes) → tooLarge t ≡ true → any tooLarge (stages t) ≡ true
 unfolding stages
@@ -81,17 +80,6 @@ when-large ts h = rw h refl
 input-large : (t : Table Bytes) → tooLarge t ≡ true → finish (stages t) ≡ refused 8
 input-large t h = when-large (stages t) (first-stage t h)
 
--- the lengths of a table past refusal 2
-counts-rules : (w : Words) → badCounts w ≡ false → (length (w .rules) ≤ 1024) × (length (w .rows) ≤ 16384)
-counts-rules w h =
-    let a : Bool = not (eqb (length (w .rules) % ruleWidth) 0) in
-    let b : Bool = not (eqb (length (w .rows) % rowWidth) 0) in
-    let c : Bool = ltb 1024 (length (w .rules)) in
-    let d : Bool = ltb 16384 (length (w .rows)) in
-    let e : Bool = ltb 65536 (length (w .text)) in
-    let k : (c || (d || e)) ≡ false = neither-right b (c || (d || e)) (neither-right a (b || (c || (d || e))) h) in
-    (ltb-false 1024 (length (w .rules)) (neither-left c (d || e) k), ltb-false 16384 (length (w .rows)) (neither-left d e (neither-right c (d || e) k)))
-
 -- a table past refusal 6
 module _ {rules rows : List ℕ} {text : Bytes} {marks : List ℕ} (p : Passed (lent rules rows text) marks) where
   passed-lent : Lent rules rows (p .table)
@@ -100,8 +88,8 @@ module _ {rules rows : List ℕ} {text : Bytes} {marks : List ℕ} (p : Passed (
   pub passed-given : Given rules rows text marks
   passed-given = record { table = p .table; lent = passed-lent; inside = p .inside; index = p .index; ended = p .ended }
 
-  pub passed-few : (length rules ≤ 1024) × (length rows ≤ 16384)
-  passed-few = counts-rules (lent rules rows text) (p .counts)
+  pub passed-few : (length rules ≤ fullRules) × (length rows ≤ fullRows)
+  passed-few = let c = counts rules rows text (p .counts) in (c .rules-most, c .rows-most)
 
   one-table : {t : Table Span} → Lent rules rows t → p .table ≡ t
   one-table {t} l = same-words (p .table) t (sym (passed-lent .heads) ∙ l .heads) (sym (passed-lent .trees) ∙ l .trees)
@@ -132,7 +120,7 @@ module _ {rules rows : List ℕ} {text : Bytes} {marks : List ℕ} (p : Passed (
       size-is : (t : Table Span) → Lent rules rows t → n ≡ length (tableText (resolveTable text t))
       size-is t l = s t text (sym (l .heads)) (sym (l .trees)) (g .inside) (g .index .inside)
 
-      pub tried-large : 65536 < n → Tried 8 (lent rules rows text) m
+      pub tried-large : maxText < n → Tried 8 (lent rules rows text) m
       tried-large h =
           let t : Table Span = p .table in
           record {
@@ -141,7 +129,7 @@ module _ {rules rows : List ℕ} {text : Bytes} {marks : List ℕ} (p : Passed (
             rest = λ z. absurd (omega arith);
           }
 
-      pub tried-fine : n ≤ 65536 → Tried 0 (lent rules rows text) m
+      pub tried-fine : n ≤ maxText → Tried 0 (lent rules rows text) m
       tried-fine h =
           record {
             refuses = λ z. absurd (z refl);

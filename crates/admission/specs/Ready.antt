@@ -8,19 +8,19 @@ use lib.Dec.{ltb}
 use Rattle.grammar.specs.Basic.{Bytes}
 use Rattle.grammar.specs.Rows.{Span}
 use Rattle.grammar.specs.Table.{Table, Words, resolveTable}
-use Rattle.grammar.specs.Refusals.{zeroCounts, tooLarge}
+use Rattle.grammar.specs.Refusals.{maxText, fullRules, fullRows, zeroCounts, tooLarge}
 use Rattle.grammar.specs.Optimize.{stages, finish, ofWords, refuseIf, refused}
 use Rattle.skipper.specs.Lends.{Given, Lent}
 use Rattle.skipper.specs.Lists.{Lists}
 
 -- areas of these lengths are below full size
 abbrev pub shortOf : (rules rows text : ℕ) → Bool
-shortOf rules rows text = ltb rules 1024 || (ltb rows 16384 || ltb text 65536)
+shortOf rules rows text = ltb rules fullRules || (ltb rows fullRows || ltb text maxText)
 
 -- a table past refusal 7 and of no more than full size, with the marks that settle its skip lists
 pub record Ready (rules rows : List ℕ) (text : Bytes) (marks : List ℕ) : Type 0 where
   pub given : Given rules rows text marks
-  pub few : length rules ≤ 1024
+  pub few : length rules ≤ fullRules
   pub zeros : (t : Table Span) → Lent rules rows t → zeroCounts (resolveTable text t) ≡ false
   pub lists : (t : Table Span) → Lent rules rows t → Lists (resolveTable text t) marks
   pub fits : (t : Table Span) → Lent rules rows t → tooLarge (resolveTable text t) ≡ false

@@ -1,11 +1,10 @@
 // What a call can be refused for before the first step runs: 1 to 7, and 8 of the input.
 ghost use mathlib.Core.Path.{_≡_};
 ghost use mathlib.Core.Bool.{false, _||_};
-ghost use Prim.Native.Nat.{_≤_, _*_};
+ghost use Prim.Native.Nat.{_≤_};
 ghost use lib.ListN.{length};
 ghost use lib.Dec.{ltb};
-ghost use Rattle.grammar.specs.Refusals.{maxRules};
-ghost use Rattle.grammar.specs.Numbers.{markWidth};
+ghost use Rattle.grammar.specs.Refusals.{fullMarks};
 ghost use Rattle.refusals.specs.Check.{lent, Passed};
 ghost use Rattle.admission.specs.Ready.{shortOf, Tried, Admitted};
 use grammar::REFUSED_CYCLE;
@@ -43,7 +42,7 @@ pub fn any_short(
     b_text: usize,
     marks: usize,
 ) -> bool
-    ensures { λ r. ⌜ r ≡ (shortOf «out_rules» «out_rows» «out_text» || (shortOf «a_rules» «a_rows» «a_text» || (shortOf «b_rules» «b_rows» «b_text» || ltb marks (markWidth * maxRules)))) ⌝ }
+    ensures { λ r. ⌜ r ≡ (shortOf «out_rules» «out_rows» «out_text» || (shortOf «a_rules» «a_rows» «a_text» || (shortOf «b_rules» «b_rows» «b_text» || ltb marks fullMarks))) ⌝ }
 {
     if is_short(out_rules, out_rows, out_text) {
         return true;
@@ -76,7 +75,7 @@ fn lists_and_size(rules: &[u32], rows: &[u32], text: &[u8], marks: &mut [u32]) -
 
 // The lowest refusal that a call meets before the first step, 0 where there is none: then the marks settle the skip lists.
 pub fn refusal(short: bool, rules: &[u32], rows: &[u32], text: &[u8], marks: &mut [u32]) -> u32
-    requires { ⌜ (short ≡ false → markWidth * maxRules ≤ length (now marks)) ⌝ }
+    requires { ⌜ (short ≡ false → fullMarks ≤ length (now marks)) ⌝ }
     ensures { λ n. ⌜ Admitted short n (lent (now (rules .entry)) (now (rows .entry)) (now (text .entry))) (now (marks .exit)) ⌝ }
 {
     if short {

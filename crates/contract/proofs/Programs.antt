@@ -10,7 +10,7 @@ use Rattle.grammar.specs.Basic.{Bytes, any}
 use Rattle.grammar.specs.Rows.{Span}
 use Rattle.grammar.specs.Table.{Atomic, Table, Words, resolveTable, wordsOf}
 use Rattle.grammar.specs.Reading.{inputKinds, readTable}
-use Rattle.grammar.specs.Refusals.{badCounts, badNames, badText, meets, tooLarge, zeroCounts}
+use Rattle.grammar.specs.Refusals.{maxText, fullRules, fullRows, fullMarks, badCounts, badNames, badText, meets, tooLarge, zeroCounts}
 use Rattle.grammar.specs.Steps.{rotate}
 use Rattle.grammar.specs.Optimize.{Answer, Result, answer, finished, lastOf, ofRead, ofWords, optimize, pairs, refuseIf, stages}
 use Rattle.contract.specs.Programs.{CopiesInput, InventsReport, Lent, Keeps, OneFixedTable, Program, RefusesEverything, RotatesOnly, WrongNumber, run}
@@ -21,11 +21,11 @@ use Rattle.grammar.proofs.Examples.{w1-in, w2-in, w6a-in}
 pub can-be-met : Keeps optimize
 can-be-met in′ out a b marks = refl
 
-exactly : (w : Words) (marks : List ℕ) → length (w .rules) ≡ 1024 → length (w .rows) ≡ 16384 → length (w .text) ≡ 65536 → length marks ≡ 1024 → Lent
+exactly : (w : Words) (marks : List ℕ) → length (w .rules) ≡ fullRules → length (w .rows) ≡ fullRows → length (w .text) ≡ maxText → length marks ≡ fullMarks → Lent
 exactly w marks p q r s = record { out = w; a = w; b = w; marks = marks; full = rw (p, q, r, s) }
 
 pub some-lent : Lent
-some-lent = exactly full (replicate 1024 0) (many 1024 2779096485) (many 16384 2779096485) (many 65536 165) (many 1024 0)
+some-lent = exactly full (replicate fullMarks 0) (many fullRules 2779096485) (many fullRows 2779096485) (many maxText 165) (many fullMarks 0)
   where
     many : (n a : ℕ) → length (replicate n a) ≡ n
     many n a = length-replicate n a

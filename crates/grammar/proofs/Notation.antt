@@ -7,14 +7,15 @@ use Rattle.grammar.specs.Tree.{Choice, E, Ident, NegPred, Opt, Push, Rep
 use Rattle.grammar.specs.Table.{Rule, Table, Words, wordsOf}
 use Rattle.grammar.specs.Lists.{ANY}
 use Rattle.grammar.specs.Optimize.{Answer, Result, finished, ofWords, optimize, refused}
+use Rattle.grammar.specs.Refusals.{maxText, fullRules, fullRows, fullMarks}
 
 -- output and work areas of full size; what stands in them before the call is any number, here 165 in each byte
 abbrev pub full : Words
-full = record { rules = replicate 1024 2779096485; rows = replicate 16384 2779096485; text = replicate 65536 165 }
+full = record { rules = replicate fullRules 2779096485; rows = replicate fullRows 2779096485; text = replicate maxText 165 }
 
 unfoldable pub call : Words → Answer
 unfolding optimize
-call w = optimize w full full full (replicate 1024 0)
+call w = optimize w full full full (replicate fullMarks 0)
 
 -- An example: words and the whole answer; words and the table that they give, or their number; the same for a table, packed
 pub data Example : Type 0 where

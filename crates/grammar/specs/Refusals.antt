@@ -25,19 +25,29 @@ maxRows = 4096
 abbrev pub maxText : ℕ
 maxText = 65536
 
+-- in words, and the words of work for the rules
+abbrev pub fullRules : ℕ
+fullRules = ruleWidth * maxRules
+
+abbrev pub fullRows : ℕ
+fullRows = rowWidth * maxRows
+
+abbrev pub fullMarks : ℕ
+fullMarks = markWidth * maxRules
+
 -- 1: "an output or work area is below full size"
 abbrev pub short : Words → Bool
-short a = ltb (length (a .rules)) (ruleWidth * maxRules) || (ltb (length (a .rows)) (rowWidth * maxRows) || ltb (length (a .text)) maxText)
+short a = ltb (length (a .rules)) fullRules || (ltb (length (a .rows)) fullRows || ltb (length (a .text)) maxText)
 
 abbrev pub shortMarks : List ℕ → Bool
-shortMarks marks = ltb (length marks) (markWidth * maxRules)
+shortMarks marks = ltb (length marks) fullMarks
 
 -- 2: "a word count isn't a multiple of four, or the input is above full size"
 abbrev pub badCounts : Words → Bool
 badCounts w =
     not (eqb (length (w .rules) % ruleWidth) 0)
     || (not (eqb (length (w .rows) % rowWidth) 0)
-    || (ltb (ruleWidth * maxRules) (length (w .rules)) || (ltb (rowWidth * maxRows) (length (w .rows)) || ltb maxText (length (w .text)))))
+    || (ltb fullRules (length (w .rules)) || (ltb fullRows (length (w .rows)) || ltb maxText (length (w .text)))))
 
 -- 4: "offset plus length, as whole numbers, is above the text's length, or with a byte above 127; a Range word above 127"
 abbrev pub badSpan : Bytes → Span → Bool

@@ -24,10 +24,10 @@ use Rattle.names.specs.declared.Found.the-variants.{At, Nothing}
 -- ---- the words of rule i
 
 -- a word of the rules, past the first rule
-past : (a b c d : ℕ) (ws : List ℕ) (i k : ℕ) → getD (a ∷ b ∷ c ∷ d ∷ ws) (suc i * rowWidth + k) 0 ≡ getD ws (i * rowWidth + k) 0
+past : (a b c d : ℕ) (ws : List ℕ) (i k : ℕ) → getD (a ∷ b ∷ c ∷ d ∷ ws) (suc i * ruleWidth + k) 0 ≡ getD ws (i * ruleWidth + k) 0
 past a b c d ws i k = let e : suc i * ruleWidth + k ≡ suc (suc (suc (suc (i * ruleWidth + k)))) = omega arith in rw e
 
-past₀ : (a b c d : ℕ) (ws : List ℕ) (i : ℕ) → getD (a ∷ b ∷ c ∷ d ∷ ws) (suc i * rowWidth) 0 ≡ getD ws (i * rowWidth) 0
+past₀ : (a b c d : ℕ) (ws : List ℕ) (i : ℕ) → getD (a ∷ b ∷ c ∷ d ∷ ws) (suc i * ruleWidth) 0 ≡ getD ws (i * ruleWidth) 0
 past₀ a b c d ws i = let e : suc i * ruleWidth ≡ suc (suc (suc (suc (i * ruleWidth)))) = omega arith in rw e
 
 -- rule i of a table, in its words

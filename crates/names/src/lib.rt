@@ -13,7 +13,7 @@ ghost use Rattle.grammar.specs.Lists.{ANY};
 ghost use Rattle.grammar.specs.Stack.{stackNames};
 ghost use Rattle.grammar.specs.Refusals as refusals;
 ghost use Rattle.rows.specs.Rows.{Tells};
-ghost use Rattle.names.specs.Names.{nameOf, rowsBefore, hashFrom, lastBytes, bucketOf, halfAt, withHalf, symbolAt, onward, marked, withEnds, NamesInside, Ends, Indexed, Walkable, AllIndexed, IndexAnswer, NamesAnswer, ApartAnswer, First, Finds, IsName, halves, ifNot, ifSo, halfSize, fewRules, waysWord};
+ghost use Rattle.names.specs.Names.{nameOf, rowsBefore, hashFrom, lastBytes, bucketOf, halfAt, withHalf, symbolAt, onward, marked, withEnds, NamesInside, Ends, Indexed, Walkable, AllIndexed, IndexAnswer, NamesAnswer, ApartAnswer, First, Finds, IsName, halves, ifNot, ifSo, halfSize, fewRules, memoryWord, waysWord};
 use grammar::LENGTH;
 use grammar::MARK_WIDTH;
 use grammar::ROWS;
@@ -335,6 +335,14 @@ fn clear(rules: &[u32], text: &[u8], marks: &mut [u32])
     let none = halves(count, count);
     fill(count, marks, 0, none);
     fill(count, marks, WAYS, none);
+}
+
+// Clears the memories of the first `count` rules.
+pub fn forget(marks: &mut [u32], count: usize)
+    requires { ⌜ count * markWidth ≤ length (now marks) ⌝ }
+    ensures { λ _. ⌜ now (marks .exit) ≡ marked (λ _. 0) memoryWord count (now (marks .entry)) ⌝ }
+{
+    fill(count, marks, MEMORY, 0);
 }
 
 // Makes the index of all names: false where two are the same.

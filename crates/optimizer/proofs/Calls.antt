@@ -9,7 +9,7 @@ use lib.ListN.{length, take, drop, length-append, length-drop}
 use lib.Seq.{length-take-le}
 use lib.Dec.{ltb}
 use Rattle.grammar.specs.Table.{Words}
-use Rattle.grammar.specs.Refusals.{short, shortMarks}
+use Rattle.grammar.specs.Refusals.{maxText, fullRules, fullRows, fullMarks, short, shortMarks}
 use Rattle.grammar.specs.Optimize.{answer, ofWords, refuseIf, optimize}
 use Rattle.refusals.proofs.Fours.{neither-left, neither-right}
 use Rattle.turns.specs.Chain.{Sized, Works}
@@ -18,11 +18,11 @@ use Rattle.optimizer.specs.Entry.{AtLeast, Lengths}
 -- refusal 1
 short-fine : (w : Words) → short w ≡ false → AtLeast (w .rules) (w .rows) (w .text)
 short-fine w h =
-    let a : Bool = ltb (length (w .rules)) 1024 in
-    let b : Bool = ltb (length (w .rows)) 16384 in
-    let c : Bool = ltb (length (w .text)) 65536 in
+    let a : Bool = ltb (length (w .rules)) fullRules in
+    let b : Bool = ltb (length (w .rows)) fullRows in
+    let c : Bool = ltb (length (w .text)) maxText in
     let k : (b || c) ≡ false = neither-right a (b || c) h in
-    record { rules = ltb-false (length (w .rules)) 1024 (neither-left a (b || c) h); rows = ltb-false (length (w .rows)) 16384 (neither-left b c k); text = ltb-false (length (w .text)) 65536 (neither-right b c k) }
+    record { rules = ltb-false (length (w .rules)) fullRules (neither-left a (b || c) h); rows = ltb-false (length (w .rows)) fullRows (neither-left b c k); text = ltb-false (length (w .text)) maxText (neither-right b c k) }
 
 abbrev pub anyShort : (out a b : Words) (marks : List ℕ) → Bool
 anyShort out a b marks = short out || (short a || (short b || shortMarks marks))
@@ -35,7 +35,7 @@ none-short out a b marks h =
       out = short-fine out (neither-left (short out) (short a || (short b || shortMarks marks)) h);
       one = short-fine a (neither-left (short a) (short b || shortMarks marks) k);
       other = short-fine b (neither-left (short b) (shortMarks marks) l);
-      marked = ltb-false (length marks) 1024 (neither-right (short b) (shortMarks marks) l);
+      marked = ltb-false (length marks) fullMarks (neither-right (short b) (shortMarks marks) l);
     }
 
 -- the whole call, once that is known
@@ -44,10 +44,10 @@ unfolding optimize
 whole-call in′ out a b marks h = ap (λ (x : Bool). answer out (refuseIf x 1 (ofWords in′))) h
 
 -- the fronts of the work areas
-cut-sized : {os o s : List ℕ} → AtLeast os o s → Sized (take 1024 os) (take 16384 o) (take 65536 s)
-cut-sized {os} {o} {s} l = record { rules = length-take-le 1024 os (l .rules); rows = length-take-le 16384 o (l .rows); text = length-take-le 65536 s (l .text) }
+cut-sized : {os o s : List ℕ} → AtLeast os o s → Sized (take fullRules os) (take fullRows o) (take maxText s)
+cut-sized {os} {o} {s} l = record { rules = length-take-le fullRules os (l .rules); rows = length-take-le fullRows o (l .rows); text = length-take-le maxText s (l .text) }
 
-pub cut-works : {os o s os₂ o₂ s₂ : List ℕ} → AtLeast os o s → AtLeast os₂ o₂ s₂ → Works (take 1024 os) (take 16384 o) (take 65536 s) (take 1024 os₂) (take 16384 o₂) (take 65536 s₂)
+pub cut-works : {os o s os₂ o₂ s₂ : List ℕ} → AtLeast os o s → AtLeast os₂ o₂ s₂ → Works (take fullRules os) (take fullRows o) (take maxText s) (take fullRules os₂) (take fullRows o₂) (take maxText s₂)
 cut-works l k = record { one = cut-sized l; other = cut-sized k }
 
 -- a part is given back

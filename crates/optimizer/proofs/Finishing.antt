@@ -11,7 +11,7 @@ use lib.Dec.{ltb}
 use Rattle.grammar.specs.Numbers.{ruleWidth, rowWidth}
 use Rattle.grammar.specs.Basic.{Bytes, any}
 use Rattle.grammar.specs.Table.{Table, Words, rowCount, tableText, resolveTable, wordsOf}
-use Rattle.grammar.specs.Refusals.{tooLarge}
+use Rattle.grammar.specs.Refusals.{maxRows, maxText, fullRules, tooLarge}
 use Rattle.grammar.specs.Optimize as whole
 use Rattle.grammar.specs.Optimize.{stages, pairs, lastOf, finish, answer, over}
 use Rattle.grammar.proofs.Logic.{or-right}
@@ -62,13 +62,13 @@ abbrev AllSmall : List ℕ → Type 0
 AllSmall [] = Unit {0}
 AllSmall (n ∷ ns) = (n < 2 ^ 32) × AllSmall ns
 
-few-rows : (t : Table Bytes) → tooLarge t ≡ false → rowCount t ≤ 4096
+few-rows : (t : Table Bytes) → tooLarge t ≡ false → rowCount t ≤ maxRows
 unfolding tooLarge
-few-rows t h = ltb-false 4096 (rowCount t) (neither-left (ltb 4096 (rowCount t)) (ltb 65536 (length (tableText t))) h)
+few-rows t h = ltb-false maxRows (rowCount t) (neither-left (ltb maxRows (rowCount t)) (ltb maxText (length (tableText t))) h)
 
-few-bytes : (t : Table Bytes) → tooLarge t ≡ false → length (tableText t) ≤ 65536
+few-bytes : (t : Table Bytes) → tooLarge t ≡ false → length (tableText t) ≤ maxText
 unfolding tooLarge
-few-bytes t h = ltb-false 65536 (length (tableText t)) (neither-right (ltb 4096 (rowCount t)) (ltb 65536 (length (tableText t))) h)
+few-bytes t h = ltb-false maxText (length (tableText t)) (neither-right (ltb maxRows (rowCount t)) (ltb maxText (length (tableText t))) h)
 
 all-small : (ts : List (Table Bytes)) → any tooLarge ts ≡ false → AllSmall (map rowCount ts)
 all-small [] h = tt
@@ -81,7 +81,7 @@ last-fits [] h = refl
 last-fits (t ∷ []) h = neither-left (tooLarge t) false h
 last-fits (s ∷ t ∷ ts) h = last-fits (t ∷ ts) (neither-right (tooLarge s) (any tooLarge (t ∷ ts)) h)
 
-pub ran-small : {i j k l m n count : ℕ} {q : Place} (first : ℕ) (t : Table Bytes) {os o s : List ℕ} → count ≤ 1024 → first ≤ 4096 → Ran (i ∷ j ∷ k ∷ l ∷ m ∷ n ∷ q .rows ∷ []) q (allSeven t) os o s → Small count first i j k l m n q
+pub ran-small : {i j k l m n count : ℕ} {q : Place} (first : ℕ) (t : Table Bytes) {os o s : List ℕ} → count ≤ fullRules → first ≤ maxRows → Ran (i ∷ j ∷ k ∷ l ∷ m ∷ n ∷ q .rows ∷ []) q (allSeven t) os o s → Small count first i j k l m n q
 ran-small {i} {j} {k} {l} {m} {n} {count} {q} first t c f r =
     let a : AllSmall (i ∷ j ∷ k ∷ l ∷ m ∷ n ∷ q .rows ∷ []) = subst AllSmall (sym (r .counts)) (all-small (allSeven t) (r .fits)) in
     record {
@@ -109,7 +109,7 @@ pairs-are (t ∷ []) = refl
 pairs-are (s ∷ t ∷ ts) = ap (λ (l : List ℕ). rowCount s ∷ rowCount t ∷ l) (pairs-are (t ∷ ts))
 
 -- the table that the steps left, as the outputs are to hold it
-pub ran-covers : {ns : List ℕ} {q : Place} {count : ℕ} {ts : List (Table Bytes)} {os o s os′ o′ s′ : List ℕ} → AtLeast os′ o′ s′ → count ≤ 1024 → count ≡ length (lastOf ts) * ruleWidth → Ran ns q ts os o s → Covers count q os o s os′ o′ s′
+pub ran-covers : {ns : List ℕ} {q : Place} {count : ℕ} {ts : List (Table Bytes)} {os o s os′ o′ s′ : List ℕ} → AtLeast os′ o′ s′ → count ≤ fullRules → count ≡ length (lastOf ts) * ruleWidth → Ran ns q ts os o s → Covers count q os o s os′ o′ s′
 ran-covers {ts = ts} l c e r =
     let w = front-within (lastOf ts) (r .front) in
     let h : tooLarge (lastOf ts) ≡ false = last-fits ts (r .fits) in
@@ -153,7 +153,7 @@ module _ {rules rows : List ℕ} {text : Bytes} {marks : List ℕ} (r : Ready ru
   pub read-fits : tooLarge read ≡ false
   read-fits = r .fits (r .given .table) (r .given .lent)
 
-  pub rows-few : length rows / rowWidth ≤ 4096
+  pub rows-few : length rows / rowWidth ≤ maxRows
   rows-few = omega (arith, rows-before, few-rows read read-fits)
 
   pub rules-after : length rules ≡ length (lastOf (allSeven read)) * ruleWidth

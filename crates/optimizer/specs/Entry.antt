@@ -4,6 +4,7 @@ use Prim.Native.Nat.{ℕ, _≤_, _<_, _^_}
 use lib.ListN.{length}
 use Rattle.grammar.specs.Table.{Words}
 use Rattle.grammar.specs.Optimize as grammar
+use Rattle.grammar.specs.Refusals.{maxText, fullRules, fullRows, fullMarks}
 use Rattle.writing.specs.declared.Place.{Place}
 use Rattle.optimizer.specs.declared.Answer.{Answer}
 
@@ -13,16 +14,16 @@ seen r out = record { number = r .number; rules = r .rules; rows = r .rows; text
 
 -- areas of full size or more
 pub record AtLeast (os o s : List ℕ) : Type 0 where
-  pub rules : 1024 ≤ length os
-  pub rows : 16384 ≤ length o
-  pub text : 65536 ≤ length s
+  pub rules : fullRules ≤ length os
+  pub rows : fullRows ≤ length o
+  pub text : maxText ≤ length s
 
 -- the outputs, both work tables and the marks
 pub record Lengths (os o s os₁ o₁ s₁ os₂ o₂ s₂ marks : List ℕ) : Type 0 where
   pub out : AtLeast os o s
   pub one : AtLeast os₁ o₁ s₁
   pub other : AtLeast os₂ o₂ s₂
-  pub marked : 1024 ≤ length marks
+  pub marked : fullMarks ≤ length marks
 
 -- counts that a word holds
 pub record Small (count n n1 n2 n3 n4 n5 n6 : ℕ) (p : Place) : Type 0 where

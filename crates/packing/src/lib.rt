@@ -2,8 +2,8 @@
 ghost use mathlib.Core.Path.{_≡_};
 ghost use Prim.Native.Nat.{_*_, _^_, _≤_, _<_};
 ghost use lib.ListN.{length, take};
-ghost use Rattle.grammar.specs.Refusals.{maxRules, maxRows};
-ghost use Rattle.grammar.specs.Numbers.{rowWidth, ruleWidth};
+ghost use Rattle.grammar.specs.Refusals.{fullRules, fullRows};
+ghost use Rattle.grammar.specs.Numbers.{rowWidth};
 ghost use Rattle.grammar.specs.Basic.{Bytes};
 ghost use Rattle.grammar.specs.Rows.{Span};
 ghost use Rattle.grammar.specs.Table.{Table, ruleWords, rowWords, resolveTable, tableText};
@@ -41,7 +41,7 @@ fn lit_length(kind: u32, y: u32) -> usize
 
 // The sum of the names' lengths.
 fn names_size(rules: &[u32]) -> usize
-    requires { ⌜ length (now rules) ≤ ruleWidth * maxRules ⌝ }
+    requires { ⌜ length (now rules) ≤ fullRules ⌝ }
     ensures { λ n. ⌜ (n ≡ sumFour nameLength (now (rules .entry))) × (n ≤ 2 ^ 40) ⌝ }
 {
     let count = rules.len() / RULE_WIDTH;
@@ -56,7 +56,7 @@ fn names_size(rules: &[u32]) -> usize
 
 // The sum of the literals' lengths.
 fn lits_size(rows: &[u32]) -> usize
-    requires { ⌜ length (now rows) ≤ rowWidth * maxRows ⌝ }
+    requires { ⌜ length (now rows) ≤ fullRows ⌝ }
     ensures { λ n. ⌜ (n ≡ sumFour rowLength (now (rows .entry))) × (n ≤ 2 ^ 44) ⌝ }
 {
     let count = rows.len() / ROW_WIDTH;
@@ -72,7 +72,7 @@ fn lits_size(rows: &[u32]) -> usize
 
 // The length of a lent table's packed text: its names' lengths and its literals'. What refusal 8 asks of the input.
 pub fn text_size(rules: &[u32], rows: &[u32]) -> usize
-    requires { ⌜ (length (now rules) ≤ ruleWidth * maxRules) × (length (now rows) ≤ rowWidth * maxRows) ⌝ }
+    requires { ⌜ (length (now rules) ≤ fullRules) × (length (now rows) ≤ fullRows) ⌝ }
     ensures { λ n. ⌜ ((t : Table Span) (text : Bytes) → ruleWords t ≡ now (rules .entry) → rowWords t ≡ now (rows .entry) → Inside (now (rows .entry)) (length text) → NamesInside (now (rules .entry)) (length text) → n ≡ length (tableText (resolveTable text t))) ⌝ }
 {
     let names = names_size(rules);

@@ -16,7 +16,7 @@ use Rattle.grammar.proofs.TopDown.{size-pos}
 use Rattle.rows.specs.Rows.{At}
 use Rattle.names.specs.Names.{rowsBefore}
 use Rattle.names.proofs.Marks.{before-step}
-use Rattle.passes.specs.Passes.{Holds}
+use Rattle.passes.specs.Passes.{stepOf, LeavesFrom, Holds}
 use Rattle.passes.proofs.Tables.{count-append, resolve-append, each-append, rules-length}
 use Rattle.passes.proofs.Progress.{rule-word, at-rule, rows-length}
 
@@ -95,3 +95,7 @@ calm-all {F} {ts} {rs} {ws} {text} {i} h l g = go (g .rest) (g .whole)
     go : (rest : Table Span) → ts ≡ g .done ++ rest → each F (resolveTable text ts) ≡ resolveTable text ts
     go [] w = subst (λ (x : Table Span). each F (resolveTable text x) ≡ resolveTable text x) (sym (w ∙ append-nil (g .done))) (g .same)
     go (r ∷ rest) w = absurd (omega (arith, l, ap length (sym (h .rules)), rules-length ts, ap length w, length-append (g .done) (r ∷ rest), g .count))
+
+-- so that a step that leaves each rule as it is leaves the table so
+pub leaves-all : (step : ℕ) {ts : Table Span} {rs ws : List ℕ} {text : Bytes} {n : ℕ} (look : Table Bytes) → Holds ts rs ws text → n ≡ length rs / ruleWidth → LeavesFrom step rs ws text 0 n → each (stepOf step look) (resolveTable text ts) ≡ resolveTable text ts
+leaves-all step {n = n} look h e l = calm-all h (omega (arith, e)) (calm-first {F = stepOf step look} h n (omega (arith, e)) (λ j b root k r a. l j b (omega arith) root k look r a))

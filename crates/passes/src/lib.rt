@@ -140,7 +140,7 @@ fn still(step: u32, kind: u32, rows: &[u32], text: &[u8], start: usize, root: us
 }
 
 // The first rule from rule `from` on, at row `start`, that the rows do not show as left as it is by a step; or the number of rules.
-fn first_fired(
+pub fn first_fired(
     step: u32,
     rules: &[u32],
     rows: &[u32],
@@ -359,7 +359,8 @@ pub fn one_rule(
     Wrote::Done(s)
 }
 
-// A step on every rule of the lent table: the new table packed in front of the three areas, or Full where it does not fit.
+// A step on every rule of the lent table, of which the first `stay` are known to be left as they are: the new table packed in front of the three areas, or
+// Full where it does not fit.
 pub fn pass(
     step: u32,
     heads0: &[u32],
@@ -372,8 +373,10 @@ pub fn pass(
     heads: &mut [u32],
     out: &mut [u32],
     lits: &mut [u8],
+    stay: usize,
 ) -> Wrote
     requires { ⌜ Passing step (now heads0) (now rows0) (now text0) (now marks) (now rules) (now rows) (now text) (now heads) (now out) (now lits) ⌝ }
+    requires { ⌜ LeavesFrom step (now rules) (now rows) (now text) 0 stay ⌝ }
     requires { ⌜ length (now rules) ≤ length (now heads) ⌝ }
     requires { ⌜ Areas (now out) (now lits) ⌝ }
     ensures { λ a. ⌜ ((gs ts : Table Span) → Lent gs (now (heads0 .entry)) (now (rows0 .entry)) → Holds ts (now (rules .entry)) (now (rows .entry)) (now (text .entry)) → PassAnswer a (each (stepOf step (resolveTable (now (text0 .entry)) gs)) (resolveTable (now (text .entry)) ts)) (now (heads .entry)) (now (out .entry)) (now (lits .entry)) (now (heads .exit)) (now (out .exit)) (now (lits .exit))) ⌝ }
@@ -381,7 +384,7 @@ pub fn pass(
     let count = rules.len() / RULE_WIDTH;
     let mut p = Place { rows: 0, text: 0 };
     // the rules before this one, from rule i on, are known to stay as they are
-    let mut next = first_fired(step, rules, rows, text, 0, 0);
+    let mut next = stay;
     let mut end: usize = 0;
     let mut i: usize = 0;
     while i < count {
@@ -412,12 +415,4 @@ pub fn pass(
         i += 1;
     }
     Wrote::Done(p)
-}
-
-// Whether the rows show that a step leaves every rule of a table as it is: up to the first that they do not show it of.
-pub fn all_still(step: u32, rules: &[u32], rows: &[u32], text: &[u8]) -> bool
-    requires { ⌜ Held (now rules) (now rows) (now text) ⌝ }
-    ensures { λ b. ⌜ (b ≡ true → (look : Table Bytes) (ts : Table Span) → Holds ts (now (rules .entry)) (now (rows .entry)) (now (text .entry)) → each (stepOf step look) (resolveTable (now (text .entry)) ts) ≡ resolveTable (now (text .entry)) ts) ⌝ }
-{
-    first_fired(step, rules, rows, text, 0, 0) == rules.len() / RULE_WIDTH
 }

@@ -13,7 +13,7 @@ use Rattle.grammar.specs.Numbers.{ruleWidth, rowWidth}
 use Rattle.grammar.specs.Basic.{Bytes}
 use Rattle.grammar.specs.Table.{Table, Words, rowCount, resolveTable}
 use Rattle.grammar.specs.Reading.{readTable, inputKinds}
-use Rattle.grammar.specs.Refusals.{badCounts, badText, badNames, zeroCounts}
+use Rattle.grammar.specs.Refusals.{maxText, fullRules, fullRows, badCounts, badText, badNames, zeroCounts}
 use Rattle.grammar.proofs.Words.{TableOf, table-is}
 use Rattle.rows.specs.Rows.{Inside}
 use Rattle.names.specs.Names.{rowsBefore, NamesInside}
@@ -53,26 +53,26 @@ module _ (rules rows : List ℕ) (text : Bytes) where
   pub record Counts : Type 0 where
     pub rules-4 : length rules % ruleWidth ≡ 0
     pub rows-4 : length rows % rowWidth ≡ 0
-    pub rules-most : length rules ≤ 1024
-    pub rows-most : length rows ≤ 16384
-    pub text-most : length text ≤ 65536
+    pub rules-most : length rules ≤ fullRules
+    pub rows-most : length rows ≤ fullRows
+    pub text-most : length text ≤ maxText
 
   pub counts : badCounts w ≡ false → Counts
   counts h =
       let a : Bool = not (eqb (length rules % ruleWidth) 0) in
       let b : Bool = not (eqb (length rows % rowWidth) 0) in
-      let c : Bool = ltb 1024 (length rules) in
-      let d : Bool = ltb 16384 (length rows) in
-      let e : Bool = ltb 65536 (length text) in
+      let c : Bool = ltb fullRules (length rules) in
+      let d : Bool = ltb fullRows (length rows) in
+      let e : Bool = ltb maxText (length text) in
       let h₁ : (b || (c || (d || e))) ≡ false = neither-right a (b || (c || (d || e))) h in
       let h₂ : (c || (d || e)) ≡ false = neither-right b (c || (d || e)) h₁ in
       let h₃ : (d || e) ≡ false = neither-right c (d || e) h₂ in
       record {
         rules-4 = eqb-true (length rules % ruleWidth) 0 (not-false (eqb (length rules % ruleWidth) 0) (neither-left a (b || (c || (d || e))) h));
         rows-4 = eqb-true (length rows % rowWidth) 0 (not-false (eqb (length rows % rowWidth) 0) (neither-left b (c || (d || e)) h₁));
-        rules-most = ltb-false 1024 (length rules) (neither-left c (d || e) h₂);
-        rows-most = ltb-false 16384 (length rows) (neither-left d e h₃);
-        text-most = ltb-false 65536 (length text) (neither-right d e h₃);
+        rules-most = ltb-false fullRules (length rules) (neither-left c (d || e) h₂);
+        rows-most = ltb-false fullRows (length rows) (neither-left d e h₃);
+        text-most = ltb-false maxText (length text) (neither-right d e h₃);
       }
 
   module _ (c : badCounts w ≡ false) where

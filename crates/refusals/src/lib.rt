@@ -6,7 +6,7 @@ ghost use lib.ListN.{length, take, drop, getD};
 ghost use lib.Dec.{eqb};
 ghost use Rattle.grammar.specs.Numbers.{ruleWidth, rowWidth, markWidth, kStr, kRestoreOnErr};
 ghost use Rattle.grammar.specs.Basic.{member};
-ghost use Rattle.grammar.specs.Refusals.{badCounts, badSpan, reserved, maxRules, maxText};
+ghost use Rattle.grammar.specs.Refusals.{badCounts, badSpan, reserved, maxText, fullMarks};
 ghost use Rattle.rows.specs.Rows.{Tells, kindAt};
 ghost use Rattle.names.specs.Names.{nameOf, rowsBefore, NamesInside, fewRules};
 ghost use Rattle.refusals.specs.Local.{upTo, usesX, usesY, unusedZero, OneFits, TwoFits, SkipFits, RowFits, IsTree, IsTable};
@@ -338,7 +338,7 @@ fn first_high(text: &[u8], p: usize, stop: usize, other: usize) -> usize
 
 // Writes for each 64 bytes of the text where the first byte above 127 from there on is; the first of all comes back.
 fn index_high(text: &[u8], marks: &mut [u32]) -> usize
-    requires { ⌜ (length (now text) ≤ maxText) × (markWidth * maxRules ≤ length (now marks)) ⌝ }
+    requires { ⌜ (length (now text) ≤ maxText) × (fullMarks ≤ length (now marks)) ⌝ }
     ensures { λ r. ⌜ High (now (text .entry)) 0 r × Indexed (now (text .entry)) (now (marks .exit)) ⌝ }
 {
     let mut stop = text.len();
@@ -439,7 +439,7 @@ fn bad_rows(rows: &[u32], text: &[u8], marks: &[u32], first: usize) -> bool
 
 // Refusal 4: some name or literal is not in the text or not ASCII, or some Range is not.
 pub fn bad_text(rules: &[u32], rows: &[u32], text: &[u8], marks: &mut [u32]) -> bool
-    requires { ⌜ (length (now text) ≤ maxText) × (markWidth * maxRules ≤ length (now marks)) ⌝ }
+    requires { ⌜ (length (now text) ≤ maxText) × (fullMarks ≤ length (now marks)) ⌝ }
     ensures { λ r. ⌜ r ≡ (anyFour (badName (now (text .entry))) (now (rules .entry)) || anyFour (badRow (now (text .entry))) (now (rows .entry))) ⌝ }
 {
     let first = index_high(text, marks);
@@ -540,7 +540,7 @@ fn check_names(rules: &[u32], rows: &[u32], text: &[u8], marks: &mut [u32]) -> V
 // Each row is read three times, each byte once or twice, each name compared with one other, and a literal past a byte above 127 costs at most 64
 // bytes more.
 pub fn check(rules: &[u32], rows: &[u32], text: &[u8], marks: &mut [u32]) -> Verdict
-    requires { ⌜ markWidth * maxRules ≤ length (now marks) ⌝ }
+    requires { ⌜ fullMarks ≤ length (now marks) ⌝ }
     ensures { λ v. ⌜ Checked v (lent (now (rules .entry)) (now (rows .entry)) (now (text .entry))) (now (marks .exit)) ⌝ }
 {
     if bad_counts(rules, rows, text) {

@@ -16,7 +16,7 @@ ghost use Rattle.grammar.specs.Steps as steps;
 ghost use Rattle.rows.specs.Rows.{Inside, At, Stands, shapeOf, kindAt, xAt, yAt, sizeAt};
 ghost use Rattle.rows.specs.declared.Shape.the-variants.{One, Two};
 ghost use Rattle.writing.specs.Writes.{Room, Answer};
-ghost use Rattle.names.specs.Names.{marked, AllIndexed, memoryWord};
+ghost use Rattle.names.specs.Names.{AllIndexed, memoryWord};
 ghost use Rattle.restorer.specs.Search.{OPEN, stateOf, Right, Walked, Looked, RuleSettled};
 ghost use Rattle.restorer.specs.Lends.{Lent, Marked, Given, Steady, TreeRows, Settles};
 ghost use Rattle.restorer.specs.Stacks.{Stacked, Searching, Ran, topOf, Left, Within, Closes, Leaves};
@@ -285,18 +285,6 @@ fn walk(
     Outcome::Silent(low, high)
 }
 
-// Forgets what is known of the rules.
-fn forget(marks: &mut [u32], count: usize)
-    requires { ⌜ count * markWidth ≤ length (now marks) ⌝ }
-    ensures { λ _. ⌜ now (marks .exit) ≡ marked (λ _. 0) 1 count (now (marks .entry)) ⌝ }
-{
-    let mut i = 0;
-    while i < count {
-        marks[i * MARK_WIDTH + MEMORY] = UNSEEN;
-        i += 1;
-    }
-}
-
 // Settles rule i and what it leads to. Where a change is reached, every rule that is open leads to it.
 fn settle_rule(
     rules: &[u32],
@@ -331,7 +319,7 @@ pub fn settle(rules: &[u32], rows: &[u32], text: &[u8], marks: &mut [u32], stack
 {
     names::mark_ends(rules, marks);
     let count = rules.len() / RULE_WIDTH;
-    forget(marks, count);
+    names::forget(marks, count);
     let mut i = 0;
     while i < count {
         settle_rule(rules, rows, text, marks, stack, i);

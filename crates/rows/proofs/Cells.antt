@@ -17,7 +17,7 @@ use Rattle.grammar.specs.Rows.{Span, strRows, flat}
 use Rattle.grammar.specs.Text.{bytesAt, resolve}
 use Rattle.rows.specs.declared.Shape.{Shape}
 use Rattle.rows.specs.declared.Shape.the-variants.{Lit, Num, One, Two, Skips}
-use Rattle.rows.specs.Rows.{kindAt, xAt, yAt, At, Cell, cell, shapeOf, cellBy, cellOf, cellAt, Tells, LitInside, Inside}
+use Rattle.rows.specs.Rows.{kindAt, xAt, yAt, At, Cell, cell, strCells, headCell, cells, shapeOf, cellBy, cellOf, cellAt, Tells, LitInside, Inside}
 use types.Run.{OneOf}
 use denote.Enum.Declared.{tagOf}
 use mathlib.Core.Logic.{⊎-elim}
@@ -129,21 +129,7 @@ un-same a b e = sym (un-back a) ∙ ap unFrom e ∙ un-back b
 pub bin-same : (a b : Bin) → binKind a ≡ binKind b → a ≡ b
 bin-same a b e = sym (bin-back a) ∙ ap binFrom e ∙ bin-back b
 
--- ---- a tree's cells, and a stack machine that reads them back
-
-abbrev strCells : List Bytes → List Cell
-strCells [] = []
-strCells (s ∷ ss) = cell 0 0 0 s ∷ strCells ss
-
-abbrev headCell : Head → Cell
-headCell h = cell (h .0) (h .1) (h .2) []
-
-abbrev cells : E → List Cell
-cells (lit k s) = cell (litKind k) 0 0 s ∷ []
-cells (fixed f) = headCell (fixedHead f) ∷ []
-cells (skip ss) = strCells ss ++ (headCell (17, length ss, 0) ∷ [])
-cells (un u e) = cells e ++ (headCell (unHead u) ∷ [])
-cells (bin b l r) = cells l ++ (cells r ++ (headCell (binKind b, 0, 0) ∷ []))
+-- ---- a stack machine that reads a tree's cells back
 
 abbrev pushUn : Un → List E → List E
 pushUn u [] = []
@@ -207,7 +193,7 @@ run-cells (skip ss) cs st = rw append-assoc (run-strs ss _ st ∙ ap (run cs) (s
 run-cells (un u e) cs st = rw append-assoc (run-cells e _ st ∙ ap (run cs) (step-un u e st))
 run-cells (bin b l r) cs st = simp append-assoc (run-cells l _ st ∙ run-cells r _ (l ∷ st) ∙ ap (run cs) (step-bin b l r st))
 
-cells-inj : (a b : E) → cells a ≡ cells b → a ≡ b
+pub cells-inj : (a b : E) → cells a ≡ cells b → a ≡ b
 cells-inj a b e =
     let p : run (cells a ++ []) [] ≡ a ∷ [] = run-cells a [] [] in
     let q : run (cells b ++ []) [] ≡ b ∷ [] = run-cells b [] [] in
@@ -218,7 +204,7 @@ length-strCells : (ss : List Bytes) → length (strCells ss) ≡ length ss
 length-strCells [] = refl
 length-strCells (s ∷ ss) = ap suc (length-strCells ss)
 
-length-cells : (e : E) → length (cells e) ≡ size e
+pub length-cells : (e : E) → length (cells e) ≡ size e
 length-cells (lit k s) = refl
 length-cells (fixed f) = refl
 length-cells (skip ss) = simp length-append (omega (arith, length-strCells ss))
@@ -268,7 +254,7 @@ module _ (t : Bytes) where
       rw (e₁, e₂, e) (group-at k ws d (omega arith))
 
   -- the cells of a tree that stands in the words are those of its rows
-  cells-at : {w : List ℕ} {i : ℕ} {r : Expr Span} → At w i r → (k : ℕ) (d : Cell) → k < size r → getD (cells (resolve t r)) k d ≡ cellAt t w (i + 1 - size r + k)
+  pub cells-at : {w : List ℕ} {i : ℕ} {r : Expr Span} → At w i r → (k : ℕ) (d : Cell) → k < size r → getD (cells (resolve t r)) k d ≡ cellAt t w (i + 1 - size r + k)
   unfolding cellAt kindAt xAt yAt
   cells-at {w} {i} {r} a k d h =
       let g : getD (group (flat r)) k d ≡ cellOf t (getD (flat r) (k * rowWidth) 0) (getD (flat r) (k * rowWidth + 1) 0) (getD (flat r) (k * rowWidth + 2) 0) = group-at k (flat r) d (omega (arith, length-flat r)) in

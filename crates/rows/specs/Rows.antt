@@ -5,9 +5,9 @@ use mathlib.Core.List.{List, [], _∷_, _++_}
 use Prim.Native.Nat.{ℕ, _+_, _*_, _/_, _<_, _≤_}
 use lib.ListN.{length, getD}
 use lib.Dec.{ltb, eqb}
-use Rattle.grammar.specs.Numbers.{rowWidth, kRange, kIdent, kPosPred, kSeq, kChoice, kSkip}
+use Rattle.grammar.specs.Numbers.{rowWidth, kStr, kRange, kIdent, kPosPred, kSeq, kChoice, kSkip}
 use Rattle.grammar.specs.Basic.{Bytes}
-use Rattle.grammar.specs.Tree.{Expr, lit, fixed, skip, un, bin, size}
+use Rattle.grammar.specs.Tree.{Head, litKind, fixedHead, unHead, binKind, Expr, E, lit, fixed, skip, un, bin, size}
 use Rattle.grammar.specs.Rows.{Span, strRows, flat}
 use Rattle.grammar.specs.Text.{bytesAt}
 use Rattle.rows.specs.declared.Lookup.{Lookup}
@@ -98,6 +98,7 @@ pub record StandsIn (w : List ℕ) (i n : ℕ) : Type 0 where
 -- a row up to its offset: its kind, its numbers, its literal's bytes
 pub data Cell : Type 0 where
   cell : ℕ → ℕ → ℕ → Bytes → Cell
+  deriving Discrete as Cell-discrete
 
 abbrev pub cellBy : Shape → Bytes → ℕ → ℕ → ℕ → Cell
 cellBy Lit t k x y = cell k 0 0 (bytesAt t (x, y))
@@ -112,6 +113,21 @@ cellOf t k x y = cellBy (shapeOf k) t k x y
 -- row i of a table with the text t, up to its offset
 unfoldable pub cellAt : Bytes → List ℕ → ℕ → Cell
 cellAt t w i = cellOf t (kindAt w i) (xAt w i) (yAt w i)
+
+-- the rows of a tree over bytes, in their order
+abbrev pub strCells : List Bytes → List Cell
+strCells [] = []
+strCells (s ∷ ss) = cell kStr 0 0 s ∷ strCells ss
+
+abbrev pub headCell : Head → Cell
+headCell h = cell (h .0) (h .1) (h .2) []
+
+abbrev pub cells : E → List Cell
+cells (lit k s) = cell (litKind k) 0 0 s ∷ []
+cells (fixed f) = headCell (fixedHead f) ∷ []
+cells (skip ss) = strCells ss ++ (headCell (kSkip, length ss, 0) ∷ [])
+cells (un u e) = cells e ++ (headCell (unHead u) ∷ [])
+cells (bin b l r) = cells l ++ (cells r ++ (headCell (binKind b, 0, 0) ∷ []))
 
 -- a bool tells whether P holds
 abbrev pub Tells : Bool → Type 0 → Type 0

@@ -16,7 +16,7 @@ ghost use Rattle.grammar.specs.Lists.{strings, readLeft, readIn, loopOver, skip
 ghost use Rattle.grammar.specs.Steps.{rotate, isAtomic, topDown, orSame, skip?, skipTo};
 ghost use Rattle.rows.specs.Rows.{Inside, At, Stands, kindAt, xAt, yAt, sizeAt};
 ghost use Rattle.writing.specs.Writes.{Room, RowAnswer, LitAnswer, StrsAnswer, Answer};
-ghost use Rattle.names.specs.Names.{First, Finds, AllIndexed, IsName, marked, memoryWord};
+ghost use Rattle.names.specs.Names.{First, Finds, AllIndexed, IsName, memoryWord};
 ghost use Rattle.chains.specs.Runs.{wrap};
 ghost use Rattle.skipper.specs.Memory.{byMarks};
 ghost use Rattle.skipper.specs.Lends.{listsOf, Given, Lent, Ran, ReadsOf};
@@ -320,18 +320,6 @@ fn read_rules(rules: &[u32], rows: &[u32], text: &[u8], marks: &mut [u32]) -> u3
     LIST
 }
 
-// Clears the memories of the first `count` rules.
-fn forget(marks: &mut [u32], count: usize)
-    requires { ⌜ count * markWidth ≤ length (now marks) ⌝ }
-    ensures { λ _. ⌜ now (marks .exit) ≡ marked (λ _. 0) 1 count (now (marks .entry)) ⌝ }
-{
-    let mut i = 0;
-    while i < count {
-        marks[i * MARK_WIDTH + MEMORY] = 0;
-        i += 1;
-    }
-}
-
 // The rule in whose expression the strings of rule i are read.
 fn told(marks: &[u32], i: usize) -> usize
     requires { ⌜ i * markWidth + memoryWord < length (now marks) ⌝ }
@@ -443,7 +431,7 @@ pub fn read_lists(rules: &[u32], rows: &[u32], text: &[u8], marks: &mut [u32]) -
     ensures { λ _. ⌜ Given (now (rules .entry)) (now (rows .entry)) (now (text .entry)) (now (marks .exit)) ⌝ }
     ensures { λ a. ⌜ ((t : Table Span) → Lent (now (rules .entry)) (now (rows .entry)) t → ListsAnswer a (resolveTable (now (text .entry)) t) (now (marks .exit))) ⌝ }
 {
-    forget(marks, rules.len() / RULE_WIDTH);
+    names::forget(marks, rules.len() / RULE_WIDTH);
     let a = read_rules(rules, rows, text, marks);
     if a == AGAIN {
         Readings::Again

@@ -72,7 +72,7 @@ holds-front {p} t {os} {o} {s} f =
       rules = sym (f .rule-words);
       rows = sym (f .row-words);
       inside = table-inside (length (take (p .text) s)) (packedFrom 0 t) (take (p .rows * rowWidth) o) (packed-in (length (take (p .text) s)) 0 t (omega (arith, n))) (sym (f .row-words));
-      names = λ i l. subst (λ (w : List ℕ). getD w (i * rowWidth) 0 + getD w (i * rowWidth + 1) 0 ≤ length (take (p .text) s)) (sym (f .rule-words)) (names-in (length (take (p .text) s)) 0 t (omega (arith, n)) i (omega (arith, l, ap length (f .rule-words), rules-length (packedFrom 0 t), packed-length 0 t)));
+      names = λ i l. subst (λ (w : List ℕ). getD w (i * ruleWidth) 0 + getD w (i * ruleWidth + lengthWord) 0 ≤ length (take (p .text) s)) (sym (f .rule-words)) (names-in (length (take (p .text) s)) 0 t (omega (arith, n)) i (omega (arith, l, ap length (f .rule-words), rules-length (packedFrom 0 t), packed-length 0 t)));
     }
 
 -- and what they stand for

@@ -10,7 +10,7 @@ use Rattle.grammar.specs.Basic.{Bytes, any}
 use Rattle.grammar.specs.Rows.{Span}
 use Rattle.grammar.specs.Table.{Table, rowCount, ruleWords, packedFrom, resolveTable, wordsOf, tableText}
 use Rattle.grammar.specs.Steps.{each}
-use Rattle.grammar.specs.Refusals.{names, tooLarge}
+use Rattle.grammar.specs.Refusals.{maxRules, names, tooLarge}
 use Rattle.grammar.proofs.TopDown.{each-names}
 use Rattle.names.specs.Names.{NamesInside, AllIndexed}
 use Rattle.names.proofs.Finding.{index-moved}
@@ -74,7 +74,7 @@ module _ {rules rows : List ℕ} {text : Bytes} {marks : List ℕ} (r : Ready ru
     ready-count : length rules ≡ length t0 * ruleWidth
     ready-count = omega (arith, ap length (l .rules), rules-length t, resolve-length text t)
 
-    ready-few : length t0 ≤ 256
+    ready-few : length t0 ≤ maxRules
     ready-few = omega (arith, ready-count, r .few)
 
     -- the rules of every table are as many

@@ -10,7 +10,7 @@ use lib.Dec.{ltb}
 use Rattle.grammar.specs.Numbers.{ruleWidth}
 use Rattle.grammar.specs.Basic.{Bytes}
 use Rattle.grammar.specs.Table.{Table, rowCount, tableText}
-use Rattle.grammar.specs.Refusals.{tooLarge}
+use Rattle.grammar.specs.Refusals.{maxRules, maxRows, maxText, tooLarge}
 use Rattle.grammar.proofs.Logic.{or-left, or-right}
 use Rattle.refusals.proofs.Fours.{neither-left, neither-right}
 use Rattle.writing.specs.Writes.{Areas}
@@ -28,20 +28,20 @@ sized-areas z = record { words = omega (arith, z .rows); bytes = omega (arith, z
 pub sized-same : {os o s os′ o′ s′ : List ℕ} → length os′ ≡ length os → length o′ ≡ length o → length s′ ≡ length s → Sized os o s → Sized os′ o′ s′
 sized-same a b c z = record { rules = a ∙ z .rules; rows = b ∙ z .rows; text = c ∙ z .text }
 
-pub sized-room : {os o s : List ℕ} (t : Table Bytes) → Sized os o s → length t ≤ 256 → tooLarge t ≡ false → TableFits t os o s
+pub sized-room : {os o s : List ℕ} (t : Table Bytes) → Sized os o s → length t ≤ maxRules → tooLarge t ≡ false → TableFits t os o s
 unfolding tooLarge
 sized-room {os} {o} {s} t z l h =
-    let a : ltb 4096 (rowCount t) ≡ false = neither-left (ltb 4096 (rowCount t)) (ltb 65536 (length (tableText t))) h in
-    let b : ltb 65536 (length (tableText t)) ≡ false = neither-right (ltb 4096 (rowCount t)) (ltb 65536 (length (tableText t))) h in
+    let a : ltb maxRows (rowCount t) ≡ false = neither-left (ltb maxRows (rowCount t)) (ltb maxText (length (tableText t))) h in
+    let b : ltb maxText (length (tableText t)) ≡ false = neither-right (ltb maxRows (rowCount t)) (ltb maxText (length (tableText t))) h in
     record {
       rules = omega (arith, l, z .rules);
-      rows = omega (arith, ltb-false 4096 (rowCount t) a, z .rows);
-      text = omega (arith, ltb-false 65536 (length (tableText t)) b, z .text);
+      rows = omega (arith, ltb-false maxRows (rowCount t) a, z .rows);
+      text = omega (arith, ltb-false maxText (length (tableText t)) b, z .text);
     }
 
 pub room-sized : {os o s : List ℕ} (t : Table Bytes) → Sized os o s → TableFits t os o s → tooLarge t ≡ false
 unfolding tooLarge
-room-sized {os} {o} {s} t z f = rw (le-ltb 4096 (rowCount t) (omega (arith, f .rows, z .rows)), le-ltb 65536 (length (tableText t)) (omega (arith, f .text, z .text))) refl
+room-sized {os} {o} {s} t z f = rw (le-ltb maxRows (rowCount t) (omega (arith, f .rows, z .rows)), le-ltb maxText (length (tableText t)) (omega (arith, f .text, z .text))) refl
 
 -- a table in front of areas of full size
 pub front-room : {q : Place} {os o s : List ℕ} (t : Table Bytes) → Front q t os o s → TableFits t os o s
@@ -50,7 +50,7 @@ front-room t f = let w = front-within t f in record { rules = w .0; rows = omega
 pub front-fine : {q : Place} {os o s : List ℕ} (t : Table Bytes) → Sized os o s → Front q t os o s → tooLarge t ≡ false
 front-fine t z f = room-sized t z (front-room t f)
 
-pub front-few : {q : Place} {os o s : List ℕ} (t : Table Bytes) → Sized os o s → Front q t os o s → length t ≤ 256
+pub front-few : {q : Place} {os o s : List ℕ} (t : Table Bytes) → Sized os o s → Front q t os o s → length t ≤ maxRules
 front-few t z f = omega (arith, front-within t f .0, z .rules)
 
 -- what the steps so far came to, by their answer
@@ -76,19 +76,19 @@ front-stood {large = large} t e z f = done-stood (neither large (tooLarge t) e (
 pub full-stays : {a : Wrote} {large : Bool} {t : Table Bytes} {os o s : List ℕ} (u : Table Bytes) {os′ o′ s′ : List ℕ} → Stood a large t os o s → a ≡ Full → Stood Full (large || tooLarge u) u os′ o′ s′
 full-stays {large = large} u h e = full-stood (or-left large (tooLarge u) (h .full e))
 
-full-large : (t : Table Bytes) (os o s : List ℕ) → Sized os o s → length t ≤ 256 → (TableFits t os o s → ⊥) → tooLarge t ≡ true
+full-large : (t : Table Bytes) (os o s : List ℕ) → Sized os o s → length t ≤ maxRules → (TableFits t os o s → ⊥) → tooLarge t ≡ true
 full-large t os o s z l h = go (tooLarge t) refl
   where
     go : (b : Bool) → tooLarge t ≡ b → b ≡ true
     go true q = refl
     go false q = absurd (h (sized-room t z l q))
 
-pub pass-stood : (a : Wrote) {large : Bool} (t : Table Bytes) {os o s os′ o′ s′ : List ℕ} → large ≡ false → Sized os o s → Sized os′ o′ s′ → length t ≤ 256 → PassAnswer a t os o s os′ o′ s′ → Stood a (large || tooLarge t) t os′ o′ s′
+pub pass-stood : (a : Wrote) {large : Bool} (t : Table Bytes) {os o s os′ o′ s′ : List ℕ} → large ≡ false → Sized os o s → Sized os′ o′ s′ → length t ≤ maxRules → PassAnswer a t os o s os′ o′ s′ → Stood a (large || tooLarge t) t os′ o′ s′
 pass-stood (Done q) t e z z′ l h = front-stood t e z′ h
 pass-stood Full {large} t {os} {o} {s} e z z′ l h = full-stood (or-right large (tooLarge t) (full-large t os o s z l h))
 
 -- a step keeps the number of rules
-pub few-after : (step : ℕ) (look t : Table Bytes) {p : Place} {os o s : List ℕ} → Sized os o s → Front p t os o s → length (after step look t) ≤ 256
+pub few-after : (step : ℕ) (look t : Table Bytes) {p : Place} {os o s : List ℕ} → Sized os o s → Front p t os o s → length (after step look t) ≤ maxRules
 few-after step look t z f = omega (arith, each-length (stepOf step look) t, front-few t z f)
 
 pub count-after : (step n : ℕ) (look t : Table Bytes) → n ≡ length t * ruleWidth → n ≡ length (after step look t) * ruleWidth

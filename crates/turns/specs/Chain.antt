@@ -10,7 +10,7 @@ use Rattle.grammar.specs.Rows.{Span}
 use Rattle.grammar.specs.Table.{Table, Words, rowCount, tableText, packedFrom, resolveTable, wordsOf}
 use Rattle.grammar.specs.Steps.{each}
 use Rattle.grammar.specs.Optimize.{lastOf}
-use Rattle.grammar.specs.Refusals.{tooLarge}
+use Rattle.grammar.specs.Refusals.{maxText, fullRules, fullRows, tooLarge}
 use Rattle.names.specs.Names.{AllIndexed}
 use Rattle.writing.specs.declared.Place.{Place}
 use Rattle.writing.specs.declared.Wrote.{Wrote}
@@ -22,9 +22,9 @@ use Rattle.turns.specs.declared.Seven.the-variants as seven
 
 -- work areas of full size, no less and no more: what does not fit them is too large
 pub record Sized (os o s : List ℕ) : Type 0 where
-  pub rules : length os ≡ 1024
-  pub rows : length o ≡ 16384
-  pub text : length s ≡ 65536
+  pub rules : length os ≡ fullRules
+  pub rows : length o ≡ fullRows
+  pub text : length s ≡ maxText
 
 -- both work tables, of full size
 pub record Works (os o s os₂ o₂ s₂ : List ℕ) : Type 0 where

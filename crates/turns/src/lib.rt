@@ -12,6 +12,7 @@ ghost use Rattle.passes.specs.Passes.{Lent};
 ghost use Rattle.admission.specs.Ready.{Ready};
 ghost use Rattle.turns.specs.Chain.{after, rowsOf, sevenOf, Works, Stood, Turning, Turns, Paired, Restoring, SevenAnswer, allSeven};
 use grammar::ROW_WIDTH;
+use grammar::RULE_WIDTH;
 use passes::CONCATENATE_STEP;
 use passes::FACTOR_STEP;
 use passes::LIST_STEP;
@@ -94,7 +95,8 @@ fn turn(
     let h = &heads[..count];
     let r = &rows[..words];
     let t = &text[..bytes];
-    if passes::all_still(step, h, r, t) {
+    let stay = passes::first_fired(step, h, r, t, 0, 0);
+    if stay == count / RULE_WIDTH {
         packing::put_out(count, p, heads, rows, text, heads2, rows2, text2);
         return Wrote::Done(p);
     }
@@ -110,6 +112,7 @@ fn turn(
         heads2,
         rows2,
         text2,
+        stay,
     )
 }
 
@@ -196,7 +199,20 @@ fn restore(
     }
     // what step 7 writes to is free until it begins
     restorer::settle(h, r, t, marks, heads2);
-    passes::pass(RESTORE_STEP, h, r, t, marks, h, r, t, heads2, rows2, text2)
+    passes::pass(
+        RESTORE_STEP,
+        h,
+        r,
+        t,
+        marks,
+        h,
+        r,
+        t,
+        heads2,
+        rows2,
+        text2,
+        0,
+    )
 }
 
 // All seven, from the lent table to the first work table.
@@ -217,6 +233,7 @@ pub fn all_steps(
     ensures { λ a. ⌜ ((t : Table Span) → Lent t (now (rules .entry)) (now (rows .entry)) → SevenAnswer a (allSeven (resolveTable (now (text .entry)) t)) (now («a_rules» .exit)) (now («a_rows» .exit)) (now («a_text» .exit))) ⌝ }
 {
     let settled = &marks[..];
+    let stay = passes::first_fired(ROTATE_STEP, rules, rows, text, 0, 0);
     let p = passes::pass(
         ROTATE_STEP,
         rules,
@@ -229,6 +246,7 @@ pub fn all_steps(
         a_rules,
         a_rows,
         a_text,
+        stay,
     );
     let count = rules.len();
     let q = two_steps(

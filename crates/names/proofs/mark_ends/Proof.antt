@@ -4,7 +4,7 @@ use Prim.Native.Nat.{suc, _+_, _-_, _/_, _≤_}
 use native.Mathlib.Numerals.{add-one}
 use native.Mathlib.Omega.{arith}
 use lib.ListN.{length, length-set}
-use Rattle.grammar.specs.Numbers.{ruleWidth, rowWidth}
+use Rattle.grammar.specs.Numbers.{ruleWidth}
 use Rattle.names.specs.Names.{rowsBefore, marked, endWord}
 use Rattle.names.proofs.Marks.{before-grows, before-step, marked-step}
 use Rattle.names.proofs.mark_ends.Statement.{statement}
@@ -36,7 +36,7 @@ add-end-2 : tie.Need-add-end-2 Inv-loop μ-loop
 add-end-2 c =
     let r = c .before .before .before .args .rules .now in
     let l = c .before .before .loop in
-    omega (arith, before-step r (l .i) (l .end) (l .inv .2), before-grows r (l .i + 1) (length r / rowWidth) (omega arith))
+    omega (arith, before-step r (l .i) (l .end) (l .inv .2), before-grows r (l .i + 1) (length r / ruleWidth) (omega arith))
 
 mul-marks : tie.Need-mul-marks Inv-loop μ-loop
 mul-marks c = omega arith

@@ -56,7 +56,7 @@ refused-requires : tie.Need-refused-requires
 refused-requires c κs = search needs
 
 same-length : tie.Need-same-length
-same-length c = c .before .before .before .before .refusal .kept .1 .1 .1 .1 .0
+same-length c = search needs
 
 returns : tie.Need-returns
 returns c = refusal-seen _ refl refl refl (c .refused .ensures) (c .before .before .before .before .refusal .ensures .refuses (c .before .if1 .taken)) ∙ whole (c .before .before .before .before .before .before)
@@ -66,7 +66,7 @@ steps-requires c κs =
     let e = c .before .before .before .before .before .before .before in
     let y = e .before .before .before in
     let z = sizes (y .before .before) (y .refusal .ensures .sizes (e .if1 .left)) in
-    (y .refusal .ensures .ready (e .if1 .left), (z .one, z .other))
+    (y .refusal .ensures .ready (e .if1 .left), (search (needs, z .out, z .one, z .other), search (needs, z .out, z .one, z .other)))
 
 enum-known-n1 : tie.Need-enum-known-n1
 enum-known-n1 c = search needs
@@ -78,25 +78,25 @@ refused-requires-2 : tie.Need-refused-requires-2
 refused-requires-2 c κs = search needs
 
 same-length-2 : tie.Need-same-length-2
-same-length-2 c = stepped (c .before .before .before .before .before) .steps .kept .1 .1 .1 .1 .0
+same-length-2 c = search needs
 
 same-length-3 : tie.Need-same-length-3
-same-length-3 c = stepped (c .before .before .before .before .before) .steps .kept .1 .1 .1 .1 .1 .0
+same-length-3 c = search needs
 
 same-length-4 : tie.Need-same-length-4
-same-length-4 c = stepped (c .before .before .before .before .before) .steps .kept .1 .1 .1 .1 .1 .1 .0
+same-length-4 c = search needs
 
 same-length-5 : tie.Need-same-length-5
-same-length-5 c = stepped (c .before .before .before .before .before) .steps .kept .1 .1 .1 .1 .1 .1 .1 .0
+same-length-5 c = search needs
 
 same-length-6 : tie.Need-same-length-6
-same-length-6 c = stepped (c .before .before .before .before .before) .steps .kept .1 .1 .1 .1 .1 .1 .1 .1 .0
+same-length-6 c = search needs
 
 same-length-7 : tie.Need-same-length-7
-same-length-7 c = stepped (c .before .before .before .before .before) .steps .kept .1 .1 .1 .1 .1 .1 .1 .1 .1 .0
+same-length-7 c = search needs
 
 same-length-8 : tie.Need-same-length-8
-same-length-8 c = let w = stepped (c .before .before .before .before .before) in w .steps .kept .1 .1 .1 .0 ∙ tried w .refusal .kept .1 .1 .1 .1 .0
+same-length-8 c = search needs
 
 returns-2 : tie.Need-returns-2
 returns-2 c =

@@ -17,16 +17,16 @@ use Rattle.passes.proofs.pass.Tie as tie
 
 -- rule i begins at row `end`, and those from it up to rule `next` are left as they are
 abbrev Inv-loop : tie.InvT-loop
-Inv-loop step heads0 rows0 text0 marks rules rows text heads₀ out₀ lits₀ count p₀ next₀ end₀ i₀ heads out lits p next end i =
+Inv-loop step heads0 rows0 text0 marks rules rows text heads₀ out₀ lits₀ stay count p₀ next₀ end₀ i₀ heads out lits p next end i =
     (count ≡ length rules / ruleWidth) × Loop step heads0 rows0 text0 rules rows text heads₀ out₀ lits₀ heads out lits p end i × (end ≡ rowsBefore rules i) × LeavesFrom step rules rows text i next
 
 abbrev μ-loop : tie.MeasureT-loop
-μ-loop step heads0 rows0 text0 marks rules rows text heads₀ out₀ lits₀ count p₀ next₀ end₀ i₀ heads out lits p next end i =
+μ-loop step heads0 rows0 text0 marks rules rows text heads₀ out₀ lits₀ stay count p₀ next₀ end₀ i₀ heads out lits p next end i =
     count - i
 
 -- the function's entry; the loop's test before its turn; the call for the rule
-abbrev start : tie.After-slice-known3 Inv-loop μ-loop → tie.Start Inv-loop μ-loop
-start m = m .before .before .before .before .before .before .before .before .before .before
+abbrev start : tie.After-slice-known2 Inv-loop μ-loop → tie.Start Inv-loop μ-loop
+start m = m .before .before .before .before .before .before .before .before .before
 
 abbrev entry : tie.In-loop Inv-loop μ-loop → tie.Start Inv-loop μ-loop
 entry c = start (c .before .before .before)
@@ -61,11 +61,8 @@ next-begins c = let l = turn c .before .loop in its-end c ∙ before-step (entry
 counted : (c : tie.In-loop Inv-loop μ-loop) → c .before .loop .i + 1 ≤ length (entry c .args .rules .now)
 counted c = omega (arith, inside c)
 
-first-fired-requires : tie.Need-first-fired-requires Inv-loop μ-loop
-first-fired-requires c κs = let q = start c .pre .0 in (record { table = q .table; holds = q .holds }, (omega arith, refl))
-
 loop-holds : tie.Need-loop-holds Inv-loop μ-loop
-loop-holds c = (refl, loop-start _ _ _ _ _ _ _ _ _ _ _ refl refl (start (c .before) .pre .1 .1), refl, c .first-fired .ensures .2)
+loop-holds c = let s = start (c .before) .pre in (refl, loop-start _ _ _ _ _ _ _ _ _ _ _ refl refl (s .1 .1 .1), refl, s .1 .0)
 
 mul-wide : tie.Need-mul-wide Inv-loop μ-loop
 mul-wide c = omega arith
@@ -97,7 +94,7 @@ one-rule-requires c κs =
     let m = inside t in
     let q = s .pre .0 in
     let h = the-rule t in
-    (q .holds .inside, (record { tree = h .rule .body; at = h .next .at _ (omega (arith, h .next .count, its-root w, w .wide .ensures)) }, (v .1 .room, (ready (v .1) m (q .given) (q .lent) (q .table) (q .holds) (s .pre .1 .0), (rule-prepared (v .1) m (q .given) (q .lent) _ q _ (its-root w ∙ its-end w), λ e. v .3 _ (ltb-true _ _ e) (omega arith) _ (its-root w ∙ next-begins w))))))
+    (q .holds .inside, (record { tree = h .rule .body; at = h .next .at _ (omega (arith, h .next .count, its-root w, w .wide .ensures)) }, (v .1 .room, (ready (v .1) m (q .given) (q .lent) (q .table) (q .holds) (s .pre .1 .1 .0), (rule-prepared (v .1) m (q .given) (q .lent) _ q _ (its-root w ∙ its-end w), λ e. v .3 _ (ltb-true _ _ e) (omega arith) _ (its-root w ∙ next-begins w))))))
 
 enum-known-q : tie.Need-enum-known-q Inv-loop μ-loop
 enum-known-q c = search needs
@@ -125,8 +122,8 @@ returns c =
 add-first-fired : tie.Need-add-first-fired Inv-loop μ-loop
 add-first-fired c = let t = turn (read (called (c .before .before .before .before))) in omega (arith, entry t .good .1 .1 .1 .1 .1 .0 .0, counted t)
 
-first-fired-requires-2 : tie.Need-first-fired-requires-2 Inv-loop μ-loop
-first-fired-requires-2 c κs =
+first-fired-requires : tie.Need-first-fired-requires Inv-loop μ-loop
+first-fired-requires c κs =
     let w = read (called (c .before .before .before .before)) in
     let q = entry (turn w) .pre .0 in
     (record { table = q .table; holds = q .holds }, (omega (arith, inside (turn w)), next-begins w))
@@ -148,7 +145,7 @@ loop-again c =
     let k = o .one-rule .kept .1 .1 .1 .1 .1 .1 .1 .1 .1 .1 .1 in
     let n : LeavesFrom (s .args .step) (s .args .rules .now) (s .args .rows .now) (s .args .text .now) (t .before .loop .i + 1) (c .if1 .next) =
     ⊎-elim (λ x. subst (LeavesFrom (s .args .step) (s .args .rules .now) (s .args .rows .now) (s .args .text .now) (t .before .loop .i + 1)) (sym (x .2)) (x .1 .ensures .2)) (λ x. subst (LeavesFrom (s .args .step) (s .args .rules .now) (s .args .rows .now) (s .args .text .now) (t .before .loop .i + 1)) (sym (x .1)) (λ j b a. v .3 j b (omega (arith, a)))) (c .if1 .came) in
-    (v .0, loop-next (v .1) (inside t) (q .given) (q .lent) _ _ _ (c .before .before .q .given .1) (q .table) (q .holds) (s .pre .1 .0) (k .0) (k .1 .0) (k .1 .1 .0) (its-end w) (its-root w) (o .one-rule .ensures), next-begins w, n)
+    (v .0, loop-next (v .1) (inside t) (q .given) (q .lent) _ _ _ (c .before .before .q .given .1) (q .table) (q .holds) (s .pre .1 .1 .0) (k .0) (k .1 .0) (k .1 .1 .0) (its-end w) (its-root w) (o .one-rule .ensures), next-begins w, n)
 
 same-length-4 : tie.Need-same-length-4 Inv-loop μ-loop
 same-length-4 c = search needs
@@ -171,7 +168,6 @@ pass-spec =
     (tie.spec
     Inv-loop
     μ-loop
-    first-fired-requires
     loop-holds
     mul-wide
     add-wide
@@ -188,7 +184,7 @@ pass-spec =
     same-length-3
     returns
     add-first-fired
-    first-fired-requires-2
+    first-fired-requires
     add-i
     loop-less
     loop-again

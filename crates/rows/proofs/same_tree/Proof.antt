@@ -2,7 +2,7 @@ use mathlib.Core.Path.{_≡_, sym, _∙_}
 use Prim.Native.Nat.{_+_, _/_, _≤_, _<_}
 use native.Mathlib.Omega.{arith}
 use lib.ListN.{length}
-use Rattle.grammar.specs.Numbers.{markWidth}
+use Rattle.grammar.specs.Numbers.{rowWidth}
 use Rattle.rows.proofs.Laws.{Found, row-found, root, root-there, found-size}
 use Rattle.rows.proofs.Cells.{trees-size, trees-tell}
 use Rattle.rows.proofs.Insides.{within-run}
@@ -21,10 +21,10 @@ second : (m : tie.After-known-told2) → let l = m .before .m .given in Found (s
 second m = row-found (sym (m .before .before .before .row-at2 .ensures) ∙ m .before .m .given .1)
 
 -- their subtrees lie in the tables
-first-fits : (m : tie.After-known-told2) → (m .before .before .before .before .before .n .given .0 .1 .1 .1 .0 ≤ start m .args .i + 1) × (start m .args .i < length (start m .args .rows1 .now) / markWidth)
+first-fits : (m : tie.After-known-told2) → (m .before .before .before .before .before .n .given .0 .1 .1 .1 .0 ≤ start m .args .i + 1) × (start m .args .i < length (start m .args .rows1 .now) / rowWidth)
 first-fits m = let a = start m .pre .0 .at in let t = root a in (omega (arith, found-size (first m) a), t .inside)
 
-second-fits : (m : tie.After-known-told2) → (m .before .m .given .0 .1 .1 .1 .0 ≤ start m .args .j + 1) × (start m .args .j < length (start m .args .rows2 .now) / markWidth)
+second-fits : (m : tie.After-known-told2) → (m .before .m .given .0 .1 .1 .1 .0 ≤ start m .args .j + 1) × (start m .args .j < length (start m .args .rows2 .now) / rowWidth)
 second-fits m = let a = start m .pre .1 .at in let t = root a in (omega (arith, found-size (second m) a), t .inside)
 
 row-at-requires : tie.Need-row-at-requires

@@ -7,7 +7,6 @@ use Rattle.skipper.proofs.read_lists.Statement.{statement}
 use Rattle.skipper.proofs.read_lists.Tie as tie
 use Rattle.skipper.proofs.read_lists.Reads as reads
 use Rattle.skipper.proofs.read_lists.Lts as lts
-use Rattle.skipper.proofs.forget.Reads as forget-reads
 use Rattle.skipper.proofs.read_rules.Reads as read-rules-reads
 
 -- the marks are cleared

@@ -1,4 +1,5 @@
-use mathlib.Core.Path.{_∙_}
+use mathlib.Core.Path.{refl, _∙_}
+use native.Mathlib.Omega.{arith}
 use mathlib.Core.Bool.{_||_}
 use Rattle.grammar.specs.Rows.{Span}
 use Rattle.grammar.specs.Table.{Table, resolveTable}
@@ -28,7 +29,7 @@ abbrev fourth : tie.After-slice-known25 → tie.After-turn
 fourth c = c .before .before .before .before .before .before
 
 abbrev entry1 : tie.After-pass → tie.Start
-entry1 c = started (c .before .before .before .before .before)
+entry1 c = started (c .before .before .before .before .before .before)
 
 abbrev entry2 : tie.After-two-steps → tie.Start
 entry2 c = entry1 (first (c .before .before .before .before .before .before .before))
@@ -70,12 +71,18 @@ stood4 c t l = let s = entry4 c in let t0 = resolveTable (s .args .text .now) t 
 stood5 : (c : tie.After-restore) → let s = entry5 c in (t : Table Span) → Lent t (s .args .rules .now) (s .args .rows .now) → let t0 = resolveTable (s .args .text .now) t in Stood (c .restore .result) (large6 t0 || tooLarge (restored t0)) (restored t0) (c .restore .last .1 .1 .1 .1 .1 .1 .0) (c .restore .last .1 .1 .1 .1 .1 .1 .1 .0) (c .restore .last .1 .1 .1 .1 .1 .1 .1 .1 .0)
 stood5 c t l = let s = entry5 c in let t0 = resolveTable (s .args .text .now) t in c .restore .ensures (listed t0) (large6 t0) (stood4 (fourth (c .before .before .before .before .before .before .before .before)) t l) (listed-count (s .pre .0) t l)
 
+first-fired-requires : tie.Need-first-fired-requires
+first-fired-requires c κs =
+    let s = started (c .before) in
+    let q = first-passing (s .pre .0) (s .pre .0 .given .table) (ready-lent (s .pre .0)) (s .pre .1 .one) in
+    (record { table = q .table; holds = q .holds }, (omega arith, refl))
+
 pass-requires : tie.Need-pass-requires
 pass-requires c κs =
-    let s = started (c .before .before .before .before) in
+    let s = started (c .before .before .before .before .before) in
     let r = s .pre .0 in
     let z = s .pre .1 .one in
-    (first-passing r (r .given .table) (ready-lent r) z, (first-rules r (r .given .table) (ready-lent r) z, sized-areas z))
+    (first-passing r (r .given .table) (ready-lent r) z, (c .before .before .before .first-fired .ensures .2, (first-rules r (r .given .table) (ready-lent r) z, sized-areas z)))
 
 two-steps-requires : tie.Need-two-steps-requires
 two-steps-requires c κs =
@@ -139,6 +146,7 @@ pub all-steps-spec : {M : Type 1} → statement M
 all-steps-spec =
     tie.close
     (tie.spec
+    first-fired-requires
     pass-requires
     two-steps-requires
     two-steps-requires-2

@@ -1,4 +1,5 @@
 use mathlib.Core.Path.{refl, sym}
+use native.Mathlib.Omega.{arith}
 use lib.Seq.{length-take-le}
 use Rattle.grammar.specs.Table.{packedFrom}
 use Rattle.turns.proofs.Sizes.{sized-areas, sized-same, full-stays}
@@ -84,7 +85,7 @@ pass-requires c κs =
     let x = known (scanned y) in
     let e = x .last .given .1 in
     let k = stands-other (started x .pre .stands) (settled y) in
-    (restore-passing k e (y .settle .ensures .0 .marked) (y .settle .ensures .1), (stands-few k e, sized-areas (k .works .other)))
+    (restore-passing k e (y .settle .ensures .0 .marked) (y .settle .ensures .1), (λ j b. absurd (omega (arith, b)), (stands-few k e, sized-areas (k .works .other))))
 
 same-length-4 : tie.Need-same-length-4
 same-length-4 c = search needs

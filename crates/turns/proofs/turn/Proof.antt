@@ -1,5 +1,7 @@
-use mathlib.Core.Path.{sym}
+use mathlib.Core.Path.{refl, sym}
+use native.Mathlib.Omega.{arith}
 use lib.Seq.{length-take-le}
+use Rattle.passes.proofs.Calms.{leaves-all}
 use Rattle.turns.proofs.Sizes.{sized-areas, sized-same, full-stays}
 use Rattle.turns.proofs.Turns.{stands-within, stands-held, stands-covers, stands-few, turn-passing, held-rows, still-stood, turned-stood}
 use borrow.Author.Needs.{needs}
@@ -10,7 +12,7 @@ use Rattle.turns.proofs.turn.Tie as tie
 abbrev started : tie.After-last → tie.Start
 started c = c .before .before .before .before .before .before .before .before .before .before .before .before
 
-abbrev known : tie.After-all-still → tie.After-last
+abbrev known : tie.After-first-fired → tie.After-last
 known c = c .before .before .before .before .before .before
 
 enum-known-last : tie.Need-enum-known-last
@@ -38,8 +40,8 @@ slice-aggregate-r c = let x = c .before .before .before .before in sym (length-t
 slice-aggregate-t : tie.Need-slice-aggregate-t
 slice-aggregate-t c = let x = c .before .before .before .before .before in sym (length-take-le _ _ (stands-within (started x .pre .stands) (x .last .given .1) .2))
 
-all-still-requires : tie.Need-all-still-requires
-all-still-requires c κs = let x = c .before .before .before .before .before in stands-held (started x .pre .stands) (x .last .given .1)
+first-fired-requires : tie.Need-first-fired-requires
+first-fired-requires c κs = let x = c .before .before .before .before .before in (stands-held (started x .pre .stands) (x .last .given .1), (omega arith, refl))
 
 put-out-requires : tie.Need-put-out-requires
 put-out-requires c κs = let x = c .before .before .before .before .before .before .before .before .before .before in stands-covers (started x .pre .stands) (x .last .given .1)
@@ -59,14 +61,14 @@ returns-2 c =
     let x = known (y .before .before .before .before .before) in
     let e = x .last .given .1 in
     let z = started x .pre .stands .works in
-    λ gs t large g h n. still-stood e h n _ _ _ _ (sized-same (y .put-out .kept .1 .1 .1 .1 .1 .0) (y .put-out .kept .1 .1 .1 .1 .1 .1 .0) (y .put-out .kept .1 .1 .1 .1 .1 .1 .1 .0) (z .other)) (y .put-out .ensures .0) (y .put-out .ensures .1 .0) (y .put-out .ensures .1 .1) (y .before .before .before .before .before .all-still .ensures (y .before .before .before .before .if1 .taken) _ _ (held-rows e h n))
+    λ gs t large g h n. still-stood e h n _ _ _ _ (sized-same (y .put-out .kept .1 .1 .1 .1 .1 .0) (y .put-out .kept .1 .1 .1 .1 .1 .1 .0) (y .put-out .kept .1 .1 .1 .1 .1 .1 .1 .0) (z .other)) (y .put-out .ensures .0) (y .put-out .ensures .1 .0) (y .put-out .ensures .1 .1) (leaves-all (started x .args .step) _ (held-rows e h n) (omega (arith, y .before .before .before .before .if1 .taken, length-take-le (started x .args .count) (started x .args .heads .now) (stands-within (started x .pre .stands) e .0))) (y .before .before .before .before .before .first-fired .ensures .2))
 
 pass-requires : tie.Need-pass-requires
 pass-requires c κs =
     let x = c .before .before .before .before .before .before .before .before .before .before in
     let e = x .last .given .1 in
     let k = started x .pre in
-    (turn-passing k e, (stands-few (k .stands) e, sized-areas (k .stands .works .other)))
+    (turn-passing k e, (c .before .before .before .before .first-fired .ensures .2, (stands-few (k .stands) e, sized-areas (k .stands .works .other))))
 
 same-length-4 : tie.Need-same-length-4
 same-length-4 c = c .before .before .before .before .before .before .pass .kept .1 .1 .1 .1 .1 .1 .1 .1 .0
@@ -96,7 +98,7 @@ turn-spec =
     slice-aggregate-h
     slice-aggregate-r
     slice-aggregate-t
-    all-still-requires
+    first-fired-requires
     put-out-requires
     same-length
     same-length-2

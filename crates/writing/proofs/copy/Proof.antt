@@ -2,7 +2,7 @@ use mathlib.Core.Path.{_≡_, sym, _∙_}
 use Prim.Native.Nat.{_+_, _/_, _≤_, _<_}
 use native.Mathlib.Omega.{arith}
 use lib.ListN.{length}
-use Rattle.grammar.specs.Numbers.{markWidth}
+use Rattle.grammar.specs.Numbers.{rowWidth}
 use Rattle.rows.proofs.Laws.{Found, row-found, root, root-there, found-size}
 use Rattle.writing.proofs.Copies.{tree-copied}
 use borrow.Author.Needs.{needs}
@@ -16,7 +16,7 @@ start m = m .before .before .before .before .before .before .before .before
 found : (m : tie.After-known-told) → let k = m .before .size .given in Found (start m .args .rows .now) (start m .args .root) (k .0 .0) (k .0 .1 .0) (k .0 .1 .1 .0) (k .0 .1 .1 .1 .0)
 found m = row-found (sym (m .before .before .before .row-at .ensures) ∙ m .before .size .given .1)
 
-fits : (m : tie.After-known-told) → (m .before .size .given .0 .1 .1 .1 .0 ≤ start m .args .root + 1) × (start m .args .root < length (start m .args .rows .now) / markWidth)
+fits : (m : tie.After-known-told) → (m .before .size .given .0 .1 .1 .1 .0 ≤ start m .args .root + 1) × (start m .args .root < length (start m .args .rows .now) / rowWidth)
 fits m = let a = start m .pre .1 .0 .at in let t = root a in (omega (arith, found-size (found m) a), t .inside)
 
 row-at-requires : tie.Need-row-at-requires
