@@ -1,4 +1,5 @@
-/* Arvedun: takes a grammar as rules, rows and text in lent memory, and gives it back optimized, or one of eight refusals.
+/* Arvedun: takes a grammar as rules, rows and text in lent memory, and gives it back optimized, or one of eight refusals
+   (arvedun_optimize); tells how two grammars differ (arvedun_compare, arvedun_shown).
    C99, self-contained. Link libarvedun.a (`rt staticlib arvedun`), for x86-64 Linux. Nothing is allocated, read or written but what
    is lent, and nothing is kept between calls: calls on areas of their own may run in several threads at once. */
 #ifndef ARVEDUN_H
@@ -120,6 +121,66 @@ ArvedunAnswer arvedun_optimize(
     uint32_t *b_rows, size_t b_rows_len,
     uint8_t *b_text, size_t b_text_len,
     uint32_t *marks, size_t marks_len);
+
+/* Two grammars side by side. */
+
+/* The list has room for 512 entries of four words: sort, left rule, right rule, row; what a sort doesn't use is 0. Rules are counted from 0,
+   rows from the rule's first row. */
+#define ARVEDUN_ENTRIES 512
+#define ARVEDUN_LIST_WORDS 2048
+#define ARVEDUN_ONLY_LEFT 0  /* left rule   no rule of the right grammar has its name */
+#define ARVEDUN_OTHER_TYPE 1 /* both rules  they have one name and two types */
+#define ARVEDUN_OTHER_TREE 2 /* both, row   they have one name, and their rows are the same before this one, sizes and offsets apart, and not
+                                            here; the shorter one's number of rows, if it is a prefix of the other */
+#define ARVEDUN_ONLY_RIGHT 3 /* right rule  no rule of the left grammar has its name */
+
+/* The sides. */
+#define ARVEDUN_LEFT 0
+#define ARVEDUN_RIGHT 1
+
+/* The refusal's number or ARVEDUN_DONE, whose grammar it is (0 for refusal 1 too), and the number of entries, 0 where there is a refusal. */
+typedef struct {
+    uint32_t number;
+    uint32_t side;
+    uint32_t count;
+} ArvedunCompared;
+
+/* Writes how the grammars differ: for each left rule, in their order, that it is found only left, or that its type, then that its rows are
+   others; then the rules found only right, in their order. The order of rules and where a text has its bytes make no difference. No entries,
+   exactly where the grammars have the same rules.
+   The entries stand in front of the list (4 * count words); what lies past them is unchanged. The marks are work areas.
+   Full size: 2,048 words for the list, 1,024 for each of the marks; smaller ones are refusal 1. Then refusals 2 to 6 as above, all of the
+   left grammar before any of the right one. A refusal leaves the list unchanged. Refusals 7 and 8 do not apply.
+   What a caller owes is as above: the list and the marks overlap nothing else; the two grammars may be the same memory. */
+ArvedunCompared arvedun_compare(
+    const uint32_t *left_rules, size_t left_rules_len,
+    const uint32_t *left_rows, size_t left_rows_len,
+    const uint8_t *left_text, size_t left_text_len,
+    const uint32_t *right_rules, size_t right_rules_len,
+    const uint32_t *right_rows, size_t right_rows_len,
+    const uint8_t *right_text, size_t right_text_len,
+    uint32_t *list, size_t list_len,
+    uint32_t *left_marks, size_t left_marks_len,
+    uint32_t *right_marks, size_t right_marks_len);
+
+/* A literal: found is 1, and its bytes are length bytes of its side's text from offset on; or three zeros. */
+typedef struct {
+    uint32_t found;
+    uint32_t offset;
+    uint32_t length;
+} ArvedunLiteral;
+
+/* The literal (STR, INSENS or IDENT) at a row of a rule of one side, the row counted from the rule's first as in the list. Nothing need hold of
+   what is lent: found is 0 where there is no such side, rule or row, where the row is no literal or its bytes do not lie in the text. Only
+   the rules' counts of rows and that one row are looked at. */
+ArvedunLiteral arvedun_shown(
+    const uint32_t *left_rules, size_t left_rules_len,
+    const uint32_t *left_rows, size_t left_rows_len,
+    const uint8_t *left_text, size_t left_text_len,
+    const uint32_t *right_rules, size_t right_rules_len,
+    const uint32_t *right_rows, size_t right_rows_len,
+    const uint8_t *right_text, size_t right_text_len,
+    uint32_t side, uint64_t rule, uint64_t row);
 
 #ifdef __cplusplus
 }

@@ -6,6 +6,7 @@ pub const RULE_WORDS: usize = 1024;
 pub const ROW_WORDS: usize = 16384;
 pub const TEXT_BYTES: usize = 65536;
 pub const MARK_WORDS: usize = 1024;
+pub const LIST_WORDS: usize = 2048;
 
 /// The stack that a calling thread must have left (ARVEDUN_STACK_BYTES): half of what Rust's own threads have.
 pub const STACK_BYTES: usize = 1 << 20;
@@ -38,6 +39,22 @@ pub enum Refusal {
 impl Refusal {
     pub fn number(self) -> u32 {
         self as u32
+    }
+
+    /// None for 0, which is no refusal.
+    fn of(number: u32) -> Option<Refusal> {
+        Some(match number {
+            0 => return None,
+            1 => Refusal::Area,
+            2 => Refusal::Size,
+            3 => Refusal::Shape,
+            4 => Refusal::Text,
+            5 => Refusal::Names,
+            6 => Refusal::Count,
+            7 => Refusal::Cycle,
+            8 => Refusal::Full,
+            other => unreachable!("arvedun gave the number {other}"),
+        })
     }
 }
 
@@ -106,27 +123,109 @@ impl Arvedun {
                 marks.as_mut_ptr(), marks.len(),
             )
         };
-        let refusal = match answer.number {
-            0 => {
-                return Ok(Table {
-                    rules: &out.rules[..4 * answer.rules as usize],
-                    rows: &out.rows[..4 * answer.rows as usize],
-                    text: &out.text[..answer.text as usize],
-                    report: std::array::from_fn(|i| (answer.report[2 * i], answer.report[2 * i + 1])),
-                })
-            }
-            1 => Refusal::Area,
-            2 => Refusal::Size,
-            3 => Refusal::Shape,
-            4 => Refusal::Text,
-            5 => Refusal::Names,
-            6 => Refusal::Count,
-            7 => Refusal::Cycle,
-            8 => Refusal::Full,
-            other => unreachable!("arvedun_optimize gave the number {other}"),
-        };
-        Err(refusal)
+        match Refusal::of(answer.number) {
+            Some(refusal) => Err(refusal),
+            None => Ok(Table {
+                rules: &out.rules[..4 * answer.rules as usize],
+                rows: &out.rows[..4 * answer.rows as usize],
+                text: &out.text[..answer.text as usize],
+                report: std::array::from_fn(|i| (answer.report[2 * i], answer.report[2 * i + 1])),
+            }),
+        }
     }
+}
+
+/// A grammar that is lent: rules and rows of four words each, as in the header.
+#[derive(Clone, Copy, Debug, PartialEq, Eq)]
+pub struct Grammar<'a> {
+    pub rules: &'a [u32],
+    pub rows: &'a [u32],
+    pub text: &'a [u8],
+}
+
+#[derive(Clone, Copy, Debug, PartialEq, Eq)]
+#[repr(u32)]
+pub enum Side {
+    Left = 0,
+    Right = 1,
+}
+
+/// How two grammars differ: rules are counted from 0, rows from the rule's first row.
+#[derive(Clone, Copy, Debug, PartialEq, Eq)]
+pub enum Difference {
+    OnlyLeft { left: usize },
+    OtherType { left: usize, right: usize },
+    /// at the first row that is not the same, or at the shorter rule's number of rows, if it is a prefix of the other
+    OtherTree { left: usize, right: usize, row: usize },
+    OnlyRight { right: usize },
+}
+
+/// The list and the work areas that comparing is lent: 16 KiB.
+pub struct Comparer {
+    list: Box<[u32]>,
+    left_marks: Box<[u32]>,
+    right_marks: Box<[u32]>,
+}
+
+impl Default for Comparer {
+    fn default() -> Self {
+        Self::new()
+    }
+}
+
+impl Comparer {
+    pub fn new() -> Comparer {
+        Comparer {
+            list: vec![0; LIST_WORDS].into(),
+            left_marks: vec![0; MARK_WORDS].into(),
+            right_marks: vec![0; MARK_WORDS].into(),
+        }
+    }
+
+    /// How the grammars differ, in the header's order; none exactly where they have the same rules. A refusal comes with its grammar's side.
+    #[rustfmt::skip]
+    pub fn compare(&mut self, left: Grammar, right: Grammar) -> Result<impl Iterator<Item = Difference> + '_, (Side, Refusal)> {
+        let Comparer { list, left_marks, right_marks } = self;
+        // SAFETY: each pointer and length is a slice's, and the borrows keep the three areas apart from each other and from the grammars.
+        let answer = unsafe {
+            arvedun_compare(
+                left.rules.as_ptr(), left.rules.len(), left.rows.as_ptr(), left.rows.len(), left.text.as_ptr(), left.text.len(),
+                right.rules.as_ptr(), right.rules.len(), right.rows.as_ptr(), right.rows.len(), right.text.as_ptr(), right.text.len(),
+                list.as_mut_ptr(), list.len(), left_marks.as_mut_ptr(), left_marks.len(), right_marks.as_mut_ptr(), right_marks.len(),
+            )
+        };
+        if let Some(refusal) = Refusal::of(answer.number) {
+            return Err((if answer.side == Side::Left as u32 { Side::Left } else { Side::Right }, refusal));
+        }
+        Ok(list[..4 * answer.count as usize].chunks(4).map(|entry| {
+            let (left, right, row) = (entry[1] as usize, entry[2] as usize, entry[3] as usize);
+            match entry[0] {
+                0 => Difference::OnlyLeft { left },
+                1 => Difference::OtherType { left, right },
+                2 => Difference::OtherTree { left, right, row },
+                _ => Difference::OnlyRight { right },
+            }
+        }))
+    }
+}
+
+/// The literal at a row of a rule of one side, as a part of that side's text. Nothing need hold of the grammars.
+#[rustfmt::skip]
+pub fn shown<'a>(left: Grammar<'a>, right: Grammar<'a>, side: Side, rule: usize, row: usize) -> Option<&'a [u8]> {
+    // SAFETY: each pointer and length is a slice's, and nothing is written.
+    let literal = unsafe {
+        arvedun_shown(
+            left.rules.as_ptr(), left.rules.len(), left.rows.as_ptr(), left.rows.len(), left.text.as_ptr(), left.text.len(),
+            right.rules.as_ptr(), right.rules.len(), right.rows.as_ptr(), right.rows.len(), right.text.as_ptr(), right.text.len(),
+            side as u32, rule as u64, row as u64,
+        )
+    };
+    let text = match side {
+        Side::Left => left.text,
+        Side::Right => right.text,
+    };
+    let from = literal.offset as usize;
+    (literal.found == 1).then(|| &text[from..from + literal.length as usize])
 }
 
 #[repr(C)]
@@ -138,6 +237,20 @@ struct ArvedunAnswer {
     report: [u32; 14],
 }
 
+#[repr(C)]
+struct ArvedunCompared {
+    number: u32,
+    side: u32,
+    count: u32,
+}
+
+#[repr(C)]
+struct ArvedunLiteral {
+    found: u32,
+    offset: u32,
+    length: u32,
+}
+
 extern "C" {
     #[rustfmt::skip]
     fn arvedun_optimize(
@@ -147,4 +260,20 @@ extern "C" {
         b_rules: *mut u32, b_rules_len: usize, b_rows: *mut u32, b_rows_len: usize, b_text: *mut u8, b_text_len: usize,
         marks: *mut u32, marks_len: usize,
     ) -> ArvedunAnswer;
+
+    #[rustfmt::skip]
+    fn arvedun_compare(
+        left_rules: *const u32, left_rules_len: usize, left_rows: *const u32, left_rows_len: usize, left_text: *const u8, left_text_len: usize,
+        right_rules: *const u32, right_rules_len: usize, right_rows: *const u32, right_rows_len: usize,
+        right_text: *const u8, right_text_len: usize,
+        list: *mut u32, list_len: usize, left_marks: *mut u32, left_marks_len: usize, right_marks: *mut u32, right_marks_len: usize,
+    ) -> ArvedunCompared;
+
+    #[rustfmt::skip]
+    fn arvedun_shown(
+        left_rules: *const u32, left_rules_len: usize, left_rows: *const u32, left_rows_len: usize, left_text: *const u8, left_text_len: usize,
+        right_rules: *const u32, right_rules_len: usize, right_rows: *const u32, right_rows_len: usize,
+        right_text: *const u8, right_text_len: usize,
+        side: u32, rule: u64, row: u64,
+    ) -> ArvedunLiteral;
 }

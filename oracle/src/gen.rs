@@ -368,54 +368,58 @@ impl<'a> Gen<'a> {
         if self.rng.percent(70) {
             return tree.clone();
         }
-        let at = self.rng.below(tree.rows());
-        let mut left = at;
-        self.changed(tree, &mut left)
+        nearly(tree, self.rng)
     }
+}
 
-    fn changed(&mut self, tree: &T, left: &mut usize) -> T {
-        let here = *left == 0;
-        *left = left.wrapping_sub(1);
-        match tree {
-            Tree::Lit(kind, l) => {
-                if !here {
-                    return tree.clone();
-                }
-                match self.rng.below(3) {
-                    0 => Tree::Lit(if *kind == STR { INSENS } else { STR }, l.clone()),
-                    1 => Tree::Lit(*kind, [&l[..], b"a"].concat()),
-                    _ => Tree::Lit(*kind, l.iter().map(|b| if *b == b'a' { b'A' } else { b'a' }).collect()),
-                }
+/// A copy with one small change.
+pub fn nearly(tree: &T, rng: &mut Rng) -> T {
+    let mut left = rng.below(tree.rows());
+    changed(tree, &mut left, rng)
+}
+
+fn changed(tree: &T, left: &mut usize, rng: &mut Rng) -> T {
+    let here = *left == 0;
+    *left = left.wrapping_sub(1);
+    match tree {
+        Tree::Lit(kind, l) => {
+            if !here {
+                return tree.clone();
             }
-            Tree::Fixed(kind, x, y) => {
-                if here {
-                    let more = if *kind == RANGE { (*x + 1) % 128 } else { x.wrapping_add(1) };
-                    return Tree::Fixed(*kind, more, *y);
-                }
-                tree.clone()
+            match rng.below(3) {
+                0 => Tree::Lit(if *kind == STR { INSENS } else { STR }, l.clone()),
+                1 => Tree::Lit(*kind, [&l[..], b"a"].concat()),
+                _ => Tree::Lit(*kind, l.iter().map(|b| if *b == b'a' { b'A' } else { b'a' }).collect()),
             }
-            Tree::Skip(list) => {
-                let mut list = list.clone();
-                if here {
-                    list.push(b"a".to_vec());
-                }
-                Tree::Skip(list)
+        }
+        Tree::Fixed(kind, x, y) => {
+            if here {
+                let more = if *kind == RANGE { (*x + 1) % 128 } else { x.wrapping_add(1) };
+                return Tree::Fixed(*kind, more, *y);
             }
-            Tree::One(kind, x, y, e) => {
-                let e = self.changed(e, left);
-                if here {
-                    return one(if *kind == OPT { REP } else { OPT }, e);
-                }
-                count(*kind, *x, *y, e)
+            tree.clone()
+        }
+        Tree::Skip(list) => {
+            let mut list = list.clone();
+            if here {
+                list.push(b"a".to_vec());
             }
-            Tree::Two(kind, l, r) => {
-                let l = self.changed(l, left);
-                let r = self.changed(r, left);
-                if here {
-                    return two(*kind, r, l);
-                }
-                two(*kind, l, r)
+            Tree::Skip(list)
+        }
+        Tree::One(kind, x, y, e) => {
+            let e = changed(e, left, rng);
+            if here {
+                return one(if *kind == OPT { REP } else { OPT }, e);
             }
+            count(*kind, *x, *y, e)
+        }
+        Tree::Two(kind, l, r) => {
+            let l = changed(l, left, rng);
+            let r = changed(r, left, rng);
+            if here {
+                return two(*kind, r, l);
+            }
+            two(*kind, l, r)
         }
     }
 }

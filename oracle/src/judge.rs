@@ -78,7 +78,7 @@ fn each<L: Clone>(rules: &[Rule<L>], step: impl Fn(&Rule<L>) -> Tree<L>) -> Vec<
 
 // Refusals 2 to 6.
 
-fn accepted(case: &Case) -> Result<Vec<Rule<Span>>, u32> {
+pub fn accepted(case: &Case) -> Result<Vec<Rule<Span>>, u32> {
     let (rules, rows, text) = (&case.rules, &case.rows, &case.text);
     if rules.len() % 4 != 0 || rows.len() % 4 != 0 {
         return Err(2);

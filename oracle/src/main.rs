@@ -10,6 +10,7 @@ mod original;
 mod print;
 mod replay;
 mod shrink;
+mod sides;
 mod table;
 
 use gen::Rng;
@@ -49,6 +50,12 @@ fn real_main() -> i32 {
         Some("compare") if args.len() > 1 => compare_file(&args[1], &args[2..]),
         Some("record") if args.len() == 5 => record(number(1), number(2), &args[3], &args[4]),
         Some("judge") => act_as_replay(),
+        Some("sides") => match args.get(1).map(|s| s.as_str()) {
+            Some("random") => sides::random(number(2), number(3), &args[4..]),
+            Some("exhaustive") => sides::all(&args[2..]),
+            Some("record") if args.len() == 6 => sides::record(number(2), number(3), &args[4], &args[5]),
+            _ => usage(),
+        },
         Some("show") if args.len() == 2 => show(&args[1]),
         _ => usage(),
     }
@@ -57,6 +64,7 @@ fn real_main() -> i32 {
 fn usage() -> ! {
     eprintln!("usage: run check | judge-vs-original SEED COUNT | random SEED COUNT [REPLAY..] | exhaustive [REPLAY..]");
     eprintln!("       run large SEED COUNT [REPLAY..] | compare CASES [REPLAY..] | record SEED COUNT STDIN_FILE STDOUT_FILE | judge | show CASES");
+    eprintln!("       run sides random SEED COUNT [REPLAY..] | sides exhaustive [REPLAY..] | sides record SEED COUNT STDIN_FILE STDOUT_FILE");
     std::process::exit(2)
 }
 
@@ -152,8 +160,8 @@ impl<'a> Run<'a> {
         }
         let batch = std::mem::take(&mut self.batch);
         self.batch_bytes = 0;
-        let cases: Vec<Case> = batch.iter().map(|(case, _)| case.clone()).collect();
-        let answers = replay::run(self.replay, &cases).unwrap_or_else(|message| {
+        let cases: Vec<Vec<u8>> = batch.iter().map(|(case, _)| case.bytes()).collect();
+        let answers = replay::run(self.replay, &cases, Answer::read).unwrap_or_else(|message| {
             println!("{message}");
             Vec::new()
         });
@@ -169,7 +177,7 @@ impl<'a> Run<'a> {
     /// None if replay is right.
     fn wrong(&self, case: &Case) -> Option<(Answer, Option<Answer>)> {
         let (wanted, _) = expected(case, self.patience, &mut [false; 7]).ok()?;
-        let got = replay::run(self.replay, &[case.clone()]).ok().and_then(|answers| answers.into_iter().next());
+        let got = replay::run(self.replay, &[case.bytes()], Answer::read).ok().and_then(|answers| answers.into_iter().next());
         if got.as_ref() == Some(&wanted) {
             return None;
         }
@@ -371,7 +379,12 @@ fn act_as_replay() -> i32 {
     let mut left = &bytes[..];
     let mut out = Vec::new();
     while let Some(case) = Case::read(&mut left) {
-        out.extend(judge::judge(&case).bytes());
+        if case.short / sides::TOOL == 1 {
+            let Some(pair) = sides::Pair::read(case, &mut left) else { break };
+            out.extend(sides::judge(&pair).bytes());
+        } else {
+            out.extend(judge::judge(&case).bytes());
+        }
     }
     std::io::stdout().write_all(&out).is_err() as i32
 }

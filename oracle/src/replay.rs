@@ -1,11 +1,10 @@
 // Gives cases to the program `replay` through pipes and takes its answers; behind them a case that is cut off.
 
-use crate::table::*;
 use std::io::{Read, Write};
 use std::process::{Command, Stdio};
 
-/// One answer for each case, as far as the program gave them.
-pub fn run(command: &[String], cases: &[Case]) -> Result<Vec<Answer>, String> {
+/// One answer for each case, as far as the program gave them; `read` takes an answer from the front.
+pub fn run<A>(command: &[String], cases: &[Vec<u8>], read: fn(&mut &[u8]) -> Option<A>) -> Result<Vec<A>, String> {
     let mut child = Command::new(&command[0])
         .args(&command[1..])
         .stdin(Stdio::piped())
@@ -13,10 +12,9 @@ pub fn run(command: &[String], cases: &[Case]) -> Result<Vec<Answer>, String> {
         .spawn()
         .map_err(|e| format!("{}: {e}", command[0]))?;
     let mut stdin = child.stdin.take().unwrap();
-    let mut input: Vec<u8> = cases.iter().flat_map(|case| case.bytes()).collect();
-    if let Some(last) = cases.last() {
+    let mut input: Vec<u8> = cases.concat();
+    if let Some(bytes) = cases.last() {
         // once more, but cut off: it must be ignored
-        let bytes = last.bytes();
         let cut = [bytes.len() - 1, 7, 16.min(bytes.len() - 1)][cases.len() % 3];
         input.extend(&bytes[..cut]);
     }
@@ -28,7 +26,7 @@ pub fn run(command: &[String], cases: &[Case]) -> Result<Vec<Answer>, String> {
     let mut left = &output[..];
     let mut answers = Vec::new();
     while answers.len() < cases.len() {
-        match Answer::read(&mut left) {
+        match read(&mut left) {
             Some(answer) => answers.push(answer),
             None => break,
         }

@@ -318,7 +318,7 @@ impl Answer {
     }
 }
 
-fn read_bytes(from: &mut &[u8], count: usize) -> Option<Vec<u8>> {
+pub fn read_bytes(from: &mut &[u8], count: usize) -> Option<Vec<u8>> {
     if from.len() < count {
         return None;
     }
@@ -332,7 +332,7 @@ fn read_word(from: &mut &[u8]) -> Option<u32> {
     Some(u32::from_le_bytes([b[0], b[1], b[2], b[3]]))
 }
 
-fn read_words(from: &mut &[u8], count: usize) -> Option<Vec<u32>> {
+pub fn read_words(from: &mut &[u8], count: usize) -> Option<Vec<u32>> {
     let bytes = read_bytes(from, count.checked_mul(4)?)?;
     Some(bytes.chunks(4).map(|b| u32::from_le_bytes([b[0], b[1], b[2], b[3]])).collect())
 }

@@ -76,8 +76,8 @@ pub fn answer(
     )
 }
 
-// The part of an area that is lent, whose place among the ten is `place`.
-fn words_lent(area: &mut [u32], full: usize, place: u32, short: u32) -> &mut [u32]
+// The part of an area that is lent, whose place among those of the entry is `place`.
+pub fn words_lent(area: &mut [u32], full: usize, place: u32, short: u32) -> &mut [u32]
     requires { ⌜ 1 ≤ full ⌝ }
 {
     let n = size(area.len(), full, place, short);

@@ -1,2 +1,3 @@
--- The whole call as a host sees it.
+-- The calls as a host sees them.
 pub mod Host
+pub mod Compare

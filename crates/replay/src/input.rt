@@ -37,7 +37,7 @@ pub fn next(b: &mut [u8]) -> Case
 }
 
 // Whether the next n bytes are there; then they stand in front of the area.
-fn read(b: &mut [u8], n: usize) -> bool
+pub fn read(b: &mut [u8], n: usize) -> bool
     requires { ⌜ n ≤ length (now b) ⌝ }
 {
     io::read_full(0, &mut b[..n]) == n
@@ -96,7 +96,7 @@ fn none() -> Case
     }
 }
 
-fn count(w: u32) -> usize {
+pub fn count(w: u32) -> usize {
     w as usize
 }
 
@@ -117,7 +117,7 @@ pub fn words(b: &[u8], from: usize, into: &mut [u32], n: usize) -> usize
     at
 }
 
-fn word_at(b: &[u8], i: usize) -> u32
+pub fn word_at(b: &[u8], i: usize) -> u32
     requires { ⌜ i + 4 ≤ length (now b) ⌝ }
 {
     wide(b[i]) | wide(b[i + 1]) << 8 | wide(b[i + 2]) << 16 | wide(b[i + 3]) << 24

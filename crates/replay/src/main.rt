@@ -1,4 +1,4 @@
-// Answers the cases of standard input, one after the other, so that the entry can be compared with others from outside.
+// Answers the cases of standard input, one after the other, so that the entries can be compared with others from outside.
 //
 // A case is four words, then what they count: the number of rule words, of row words and of text bytes, and `short`; then the rule
 // words, the row words and the text. `short` says what is lent besides them. 1 to 10: that one of the output and work areas, in the
@@ -7,7 +7,13 @@
 // An answer is the number, the counts of rules, rows and text bytes, the report's fourteen numbers, the answer's rule words, row
 // words and text, and a byte: 1 if everything of the output areas past the answer is unchanged, else 0. Words are little-endian.
 //
+// The fourth word of a tool's case is a thousand times the tool's number plus `short`, and what follows is its own. Comparing is tool 1: the
+// table is the left one, the right one follows in the same form, its fourth word the side, then eight bytes each for the rule and the row whose
+// literal is asked for. The answer is number, side and count, then found, offset and length of that literal, then the list's entries, four
+// words each, and the byte, which speaks of the list. `short` counts the list and the two marks, 1 to 3.
+//
 // A case that is cut off ends the run, and so does one with more than 1,040 rule words, 16,400 row words or 65,600 bytes of text.
+mod compare;
 mod input;
 mod output;
 
@@ -19,6 +25,11 @@ use areas::RULES_AREA;
 use input::CASE_BYTES;
 use input::Case;
 use output::ANSWERS;
+
+// A tool's number is the fourth word by this.
+const TOOL: u32 = 1000;
+
+const COMPARE: u32 = 1;
 
 // Where the run stands: the answers not yet written are [..put].
 struct State {
@@ -52,8 +63,32 @@ fn turn(bytes: &mut [u8; CASE_BYTES], answers: &mut [u8; ANSWERS], put: usize) -
     if !c.whole {
         return State { put, on: false };
     }
+    if c.short / TOOL == COMPARE {
+        return beside(c, bytes, answers, put);
+    }
     State {
         put: answer(c, bytes, answers, put),
+        on: true,
+    }
+}
+
+// One case of two tables, of which the first is there.
+fn beside(c: Case, bytes: &[u8], answers: &mut [u8; ANSWERS], put: usize) -> State
+    requires { ⌜ Counted c ⌝ }
+    requires { ⌜ (135360 ≤ length (now bytes)) × (put ≤ 131072) ⌝ }
+    ensures { λ r. ⌜ r .put ≤ 131072 ⌝ }
+{
+    let mut more = input::area();
+    let d = input::next(&mut more);
+    let at = compare::next();
+    if !d.whole {
+        return State { put, on: false };
+    }
+    if !at.whole {
+        return State { put, on: false };
+    }
+    State {
+        put: compare::answer(c, bytes, d, &more, at, answers, put),
         on: true,
     }
 }

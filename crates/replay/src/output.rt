@@ -108,6 +108,16 @@ fn give_words(answers: &mut [u8], put: usize, area: &[u32], count: u32) -> Given
     }
 }
 
+// The entries of a list by their count, and a byte: 1 if everything of its area past them is unchanged.
+pub fn give_list(answers: &mut [u8], put: usize, area: &[u32], count: u32) -> usize
+    requires { ⌜ (put ≤ length (now answers)) × (1 ≤ length (now answers)) × (4 * length (now area) ≤ length (now answers)) ⌝ }
+    ensures { λ r. ⌜ r ≤ length (now (answers .entry)) ⌝ }
+{
+    let given = give_words(answers, put, area, count);
+    let flag = [given.same as u8];
+    put_bytes(answers, given.put, &flag)
+}
+
 // A place with n bytes of room.
 fn room(answers: &[u8], put: usize, n: usize) -> usize
     requires { ⌜ (put ≤ length (now answers)) × (n ≤ length (now answers)) ⌝ }
@@ -120,7 +130,7 @@ fn room(answers: &[u8], put: usize, n: usize) -> usize
     0
 }
 
-fn put_words(answers: &mut [u8], put: usize, words: &[u32]) -> usize
+pub fn put_words(answers: &mut [u8], put: usize, words: &[u32]) -> usize
     requires { ⌜ (put ≤ length (now answers)) × (4 * length (now words) ≤ length (now answers)) ⌝ }
     ensures { λ r. ⌜ r ≤ length (now (answers .entry)) ⌝ }
 {

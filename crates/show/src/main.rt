@@ -1,4 +1,5 @@
-// Prints document 01's worked examples W1 to W12: each table before and after the call, and the report.
+// Prints document 01's worked examples W1 to W12: each table before and after the call, the report, and what changed in each rule.
+mod compare;
 mod print;
 mod tables;
 
@@ -8,7 +9,7 @@ ghost use lib.ListN.{length};
 fn main() {
     print::text(
         b"Worked examples W1 to W12. A rule: its name and type, then its rows in postfix order: index, size, kind.\n\
-A report: rows before > after rotate, skip, unroll, concatenate, factor, list and restore.\n",
+A report: rows before > after rotate, skip, unroll, concatenate, factor, list and restore. Changes: the first row of a rule that is another.\n",
     );
     let mut words = [0; 632];
     tables::flat(&tables::CELLS, &mut words);

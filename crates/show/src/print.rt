@@ -1,6 +1,7 @@
 // Tables, reports and refusals for a person to read.
 ghost use Prim.Native.Nat.{_+_, _*_, _≤_};
 ghost use lib.ListN.{length};
+use crate::compare;
 use grammar::IDENT;
 use grammar::INSENS;
 use grammar::LENGTH;
@@ -27,7 +28,7 @@ pub fn text(s: &[u8]) {
     io::write_all(1, s);
 }
 
-fn number(n: u32) {
+pub fn number(n: u32) {
     io::print_decimal(1, n as u64);
 }
 
@@ -60,6 +61,19 @@ fn call(rules: &[u32], rows: &[u32], literals: &[u8]) {
         &mut out_text,
     );
     after(a, &out_rules, &out_rows, &out_text);
+    if a.number == 0 {
+        let n = areas::words_of(&out_rules, a.rules);
+        let m = areas::words_of(&out_rows, a.rows);
+        let t = areas::bytes_of(&out_text, a.text);
+        compare::changes(
+            rules,
+            rows,
+            literals,
+            &out_rules[..n],
+            &out_rows[..m],
+            &out_text[..t],
+        );
+    }
 }
 
 fn after(a: Answer, out_rules: &[u32], out_rows: &[u32], out_text: &[u8]) {
@@ -166,7 +180,7 @@ pub fn fitting(n: u32, words: usize) -> usize
     }
 }
 
-fn wide(n: u32) -> usize {
+pub fn wide(n: u32) -> usize {
     n as usize
 }
 
@@ -277,7 +291,7 @@ fn two(x: u32, y: u32) {
 }
 
 // A literal, as far as it lies in the text.
-fn span(literals: &[u8], offset: usize, length: usize) {
+pub fn span(literals: &[u8], offset: usize, length: usize) {
     if offset <= literals.len() {
         if length <= literals.len() - offset {
             text(&literals[offset..offset + length]);
@@ -293,7 +307,7 @@ fn type_name(ty: u32) {
     );
 }
 
-fn kind_name(k: u32) {
+pub fn kind_name(k: u32) {
     part(
         b"Str Insens Range Ident PeekSlice PeekSlice PosPred NegPred Seq Choice Opt Rep RepOnce RepExact RepMin RepMax RepMinMax Skip Push RestoreOnErr",
         b' ',
