@@ -3,20 +3,12 @@
 #[path = "../rust/arvedun.rs"]
 #[allow(dead_code)]
 mod arvedun;
+#[allow(dead_code)]
+mod grammar;
 
 use arvedun::{Comparer, Difference, Grammar, Side};
+use grammar::*;
 
-const STR: u32 = 0;
-const RANGE: u32 = 2;
-const IDENT: u32 = 3;
-const SEQ: u32 = 8;
-const CHOICE: u32 = 9;
-const OPT: u32 = 10;
-const REP_ONCE: u32 = 12;
-const REP_EXACT: u32 = 13;
-const NORMAL: u32 = 0;
-const SILENT: u32 = 1;
-const ATOMIC: u32 = 2;
 #[rustfmt::skip]
 const KINDS: [&str; 19] = [
     "a string", "a string in any case", "a range", "a name", "PEEK", "PEEK", "&", "!", "~", "|", "?", "*", "+", "{n}", "{n,}", "{,n}", "{m,n}", "a skip",
@@ -24,59 +16,15 @@ const KINDS: [&str; 19] = [
 ];
 const TYPES: [&str; 5] = ["normal", "silent", "atomic", "compound atomic", "non-atomic"];
 
-/// A grammar that is put together row by row, children first.
-#[derive(Default)]
-struct Builder {
-    rules: Vec<u32>,
-    rows: Vec<u32>,
-    text: Vec<u8>,
+/// The rules of both grammars.
+trait Rules {
+    fn cancel(&mut self) -> &mut Self;
+    fn order(&mut self, ty: u32) -> &mut Self;
+    fn id(&mut self) -> &mut Self;
+    fn price(&mut self, point: &str) -> &mut Self;
 }
 
-impl Builder {
-    fn put(&mut self, s: &str) -> [u32; 2] {
-        let from = self.text.len() as u32;
-        self.text.extend(s.as_bytes());
-        [from, s.len() as u32]
-    }
-
-    /// The next rule: its rows follow.
-    fn rule(&mut self, name: &str, ty: u32) -> &mut Self {
-        let [x, y] = self.put(name);
-        self.rules.extend([x, y, ty, 0]);
-        self
-    }
-
-    fn row(&mut self, kind: u32, x: u32, y: u32, size: u32) -> &mut Self {
-        self.rows.extend([kind, x, y, size]);
-        *self.rules.last_mut().expect("a rule") += 1;
-        self
-    }
-
-    fn lit(&mut self, kind: u32, s: &str) -> &mut Self {
-        let [x, y] = self.put(s);
-        self.row(kind, x, y, 1)
-    }
-
-    fn digits(&mut self) -> &mut Self {
-        self.row(RANGE, b'0' as u32, b'9' as u32, 1)
-    }
-
-    /// The size of the tree whose root stands so many words before the end.
-    fn size(&self, before: u32) -> u32 {
-        self.rows[self.rows.len() - 1 - 4 * before as usize]
-    }
-
-    /// One child, which is the last row.
-    fn one(&mut self, kind: u32, x: u32) -> &mut Self {
-        self.row(kind, x, 0, 1 + self.size(0))
-    }
-
-    /// Two children, of which the right one is the last row.
-    fn two(&mut self, kind: u32) -> &mut Self {
-        let right = self.size(0);
-        self.row(kind, 0, 0, 1 + self.size(right) + right)
-    }
-
+impl Rules for Builder {
     fn cancel(&mut self) -> &mut Self {
         self.rule("cancel", NORMAL).lit(STR, "CXL ").lit(IDENT, "id").two(SEQ)
     }
@@ -92,15 +40,6 @@ impl Builder {
     fn price(&mut self, point: &str) -> &mut Self {
         self.rule("price", ATOMIC).digits().one(REP_ONCE, 0).lit(STR, point).digits().one(REP_EXACT, 2).two(SEQ).two(SEQ)
     }
-
-    fn grammar(&self) -> Grammar<'_> {
-        Grammar { rules: &self.rules, rows: &self.rows, text: &self.text }
-    }
-}
-
-fn name<'a>(g: Grammar<'a>, rule: usize) -> std::borrow::Cow<'a, str> {
-    let from = g.rules[4 * rule] as usize;
-    String::from_utf8_lossy(&g.text[from..from + g.rules[4 * rule + 1] as usize])
 }
 
 /// A row of a rule: a literal's bytes, else the sign of its kind.

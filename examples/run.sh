@@ -8,7 +8,7 @@ library=${1:-$here/../target/staticlib/libarvedun.a}
 tmp=$(mktemp -d); trap 'rm -rf "$tmp"' EXIT
 cp "$library" "$tmp/libarvedun.a"
 same() { "$tmp/program" >"$tmp/said"; diff "$here/$1.txt" "$tmp/said" || { echo "$2: not as expected"; exit 1; }; echo "$2: as expected"; }
-for name in call compare; do
+for name in call compare explain; do
     if command -v gcc >/dev/null; then
         gcc -std=c99 -Wall -Wextra -Werror -O2 -I "$here/../include" "$here/$name.c" "$tmp/libarvedun.a" -o "$tmp/program"
         same "$name" "$name.c"

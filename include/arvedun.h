@@ -1,5 +1,5 @@
 /* Arvedun: takes a grammar as rules, rows and text in lent memory, and gives it back optimized, or one of eight refusals
-   (arvedun_optimize); tells how two grammars differ (arvedun_compare, arvedun_shown).
+   (arvedun_optimize); tells how two grammars differ (arvedun_compare, arvedun_shown) and why a loop stays a loop (arvedun_explain).
    C99, self-contained. Link libarvedun.a (`rt staticlib arvedun`), for x86-64 Linux. Nothing is allocated, read or written but what
    is lent, and nothing is kept between calls: calls on areas of their own may run in several threads at once. */
 #ifndef ARVEDUN_H
@@ -181,6 +181,47 @@ ArvedunLiteral arvedun_shown(
     const uint32_t *right_rows, size_t right_rows_len,
     const uint8_t *right_text, size_t right_text_len,
     uint32_t side, uint64_t rule, uint64_t row);
+
+/* Why a loop stays a loop. */
+
+/* The answers, in the order in which they are asked; the place of the last three is where the reading of the loop's list ended. */
+#define ARVEDUN_BECOMES_SKIP 0 /* step 2 makes a SKIP of the row */
+#define ARVEDUN_NOT_REP 1      /* the row is no REP, or lies past the table */
+#define ARVEDUN_REGROUP 2      /* step 1 changes the row's tree: regroup first, then ask again */
+#define ARVEDUN_NOT_ATOMIC 3   /* its rule is not ATOMIC */
+#define ARVEDUN_NOT_SEQ 4      /* not REP of SEQ */
+#define ARVEDUN_NOT_NEG_PRED 5 /* left is not NEG_PRED */
+#define ARVEDUN_NOT_ANY 6      /* right is not IDENT ANY */
+#define ARVEDUN_UNKNOWN 7      /* an IDENT names no rule */
+#define ARVEDUN_OTHER 8        /* another expression that is no list: neither STR nor IDENT, nor a CHOICE of one of these on the left */
+#define ARVEDUN_MET_AGAIN 9    /* an IDENT names a rule that is already being read */
+
+/* The list has a word for each rule that can be open at once. */
+#define ARVEDUN_OPEN_WORDS 256
+
+/* The refusal's number or ARVEDUN_DONE; the answer; for 7 to 9 the rule and the row at which the reading ended, for 9 the rule met again and how
+   many rules were being read then. Rules are counted from 0, rows from the table's first. All else is 0. */
+typedef struct {
+    uint32_t number;
+    uint32_t answer;
+    uint32_t rule;
+    uint32_t at;
+    uint32_t met;
+    uint32_t open;
+} ArvedunExplained;
+
+/* Says why row `row`, counted from the table's first, stays a loop, or that it becomes a SKIP: of step 2 alone, on the table given, names looked up
+   there, also where its list would be too long for the whole call or another loop would be refused. The first reason in reading order.
+   For answer 9 the rules then being read, outermost first, stand in front of the list (open words); else the list is unchanged, and so it is past them.
+   marks is a work area. Full size: 256 words for the list, 1,024 for marks; smaller ones are refusal 1. Then refusals 2 to 6 as above.
+   What a caller owes is as above: the list and the marks overlap nothing else. */
+ArvedunExplained arvedun_explain(
+    const uint32_t *rules, size_t rules_len,
+    const uint32_t *rows, size_t rows_len,
+    const uint8_t *text, size_t text_len,
+    uint64_t row,
+    uint32_t *list, size_t list_len,
+    uint32_t *marks, size_t marks_len);
 
 #ifdef __cplusplus
 }

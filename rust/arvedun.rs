@@ -7,6 +7,7 @@ pub const ROW_WORDS: usize = 16384;
 pub const TEXT_BYTES: usize = 65536;
 pub const MARK_WORDS: usize = 1024;
 pub const LIST_WORDS: usize = 2048;
+pub const OPEN_WORDS: usize = 256;
 
 /// The stack that a calling thread must have left (ARVEDUN_STACK_BYTES): half of what Rust's own threads have.
 pub const STACK_BYTES: usize = 1 << 20;
@@ -228,6 +229,71 @@ pub fn shown<'a>(left: Grammar<'a>, right: Grammar<'a>, side: Side, rule: usize,
     (literal.found == 1).then(|| &text[from..from + literal.length as usize])
 }
 
+/// Why a row stays a loop, in the order in which it is asked. Rules are counted from 0, rows from the table's first.
+#[derive(Clone, Copy, Debug, PartialEq, Eq)]
+pub enum Explanation<'a> {
+    BecomesSkip,
+    NotRep,
+    Regroup,
+    NotAtomic,
+    NotSeq,
+    NotNegPred,
+    NotAny,
+    /// an Ident at row `at` of rule `rule` names no rule
+    Unknown { rule: usize, at: usize },
+    /// another expression that is no list stands there
+    Other { rule: usize, at: usize },
+    /// an Ident there names the rule `met`, while the rules `open` are being read, outermost first
+    MetAgain { rule: usize, at: usize, met: usize, open: &'a [u32] },
+}
+
+/// The list and the work area that explaining is lent: 5 KiB.
+pub struct Explainer {
+    list: Box<[u32]>,
+    marks: Box<[u32]>,
+}
+
+impl Default for Explainer {
+    fn default() -> Self {
+        Self::new()
+    }
+}
+
+impl Explainer {
+    pub fn new() -> Explainer {
+        Explainer { list: vec![0; OPEN_WORDS].into(), marks: vec![0; MARK_WORDS].into() }
+    }
+
+    /// Why row `row`, counted from the grammar's first, stays a loop: of step 2 alone, on the grammar given.
+    #[rustfmt::skip]
+    pub fn explain(&mut self, grammar: Grammar, row: usize) -> Result<Explanation<'_>, Refusal> {
+        let Explainer { list, marks } = self;
+        // SAFETY: each pointer and length is a slice's, and the borrows keep the two areas apart from each other and from the grammar.
+        let answer = unsafe {
+            arvedun_explain(
+                grammar.rules.as_ptr(), grammar.rules.len(), grammar.rows.as_ptr(), grammar.rows.len(), grammar.text.as_ptr(), grammar.text.len(),
+                row as u64, list.as_mut_ptr(), list.len(), marks.as_mut_ptr(), marks.len(),
+            )
+        };
+        if let Some(refusal) = Refusal::of(answer.number) {
+            return Err(refusal);
+        }
+        let (rule, at) = (answer.rule as usize, answer.at as usize);
+        Ok(match answer.answer {
+            0 => Explanation::BecomesSkip,
+            1 => Explanation::NotRep,
+            2 => Explanation::Regroup,
+            3 => Explanation::NotAtomic,
+            4 => Explanation::NotSeq,
+            5 => Explanation::NotNegPred,
+            6 => Explanation::NotAny,
+            7 => Explanation::Unknown { rule, at },
+            8 => Explanation::Other { rule, at },
+            _ => Explanation::MetAgain { rule, at, met: answer.met as usize, open: &list[..answer.open as usize] },
+        })
+    }
+}
+
 #[repr(C)]
 struct ArvedunAnswer {
     number: u32,
@@ -249,6 +315,16 @@ struct ArvedunLiteral {
     found: u32,
     offset: u32,
     length: u32,
+}
+
+#[repr(C)]
+struct ArvedunExplained {
+    number: u32,
+    answer: u32,
+    rule: u32,
+    at: u32,
+    met: u32,
+    open: u32,
 }
 
 extern "C" {
@@ -276,4 +352,10 @@ extern "C" {
         right_text: *const u8, right_text_len: usize,
         side: u32, rule: u64, row: u64,
     ) -> ArvedunLiteral;
+
+    #[rustfmt::skip]
+    fn arvedun_explain(
+        rules: *const u32, rules_len: usize, rows: *const u32, rows_len: usize, text: *const u8, text_len: usize, row: u64,
+        list: *mut u32, list_len: usize, marks: *mut u32, marks_len: usize,
+    ) -> ArvedunExplained;
 }

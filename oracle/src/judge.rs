@@ -172,7 +172,7 @@ fn after(table: &[Rule<Text>], report: &mut Vec<u32>) -> Result<(), u32> {
 
 // Step 1. A chain of Seq (of Choice) is its elements in order, nested to the right.
 
-fn rotate<L: Clone>(tree: &Tree<L>) -> Tree<L> {
+pub fn rotate<L: Clone>(tree: &Tree<L>) -> Tree<L> {
     match tree {
         Tree::Two(kind, _, _) => {
             let mut elements = Vec::new();

@@ -6,6 +6,7 @@ mod exhaustive;
 mod gen;
 mod judge;
 mod limits;
+mod loops;
 mod original;
 mod print;
 mod replay;
@@ -56,6 +57,12 @@ fn real_main() -> i32 {
             Some("record") if args.len() == 6 => sides::record(number(2), number(3), &args[4], &args[5]),
             _ => usage(),
         },
+        Some("loops") => match args.get(1).map(|s| s.as_str()) {
+            Some("random") => loops::random(number(2), number(3), &args[4..]),
+            Some("exhaustive") => loops::all(&args[2..]),
+            Some("record") if args.len() == 6 => loops::record(number(2), number(3), &args[4], &args[5]),
+            _ => usage(),
+        },
         Some("show") if args.len() == 2 => show(&args[1]),
         _ => usage(),
     }
@@ -65,6 +72,7 @@ fn usage() -> ! {
     eprintln!("usage: run check | judge-vs-original SEED COUNT | random SEED COUNT [REPLAY..] | exhaustive [REPLAY..]");
     eprintln!("       run large SEED COUNT [REPLAY..] | compare CASES [REPLAY..] | record SEED COUNT STDIN_FILE STDOUT_FILE | judge | show CASES");
     eprintln!("       run sides random SEED COUNT [REPLAY..] | sides exhaustive [REPLAY..] | sides record SEED COUNT STDIN_FILE STDOUT_FILE");
+    eprintln!("       run loops random SEED COUNT [REPLAY..] | loops exhaustive [REPLAY..] | loops record SEED COUNT STDIN_FILE STDOUT_FILE");
     std::process::exit(2)
 }
 
@@ -379,11 +387,17 @@ fn act_as_replay() -> i32 {
     let mut left = &bytes[..];
     let mut out = Vec::new();
     while let Some(case) = Case::read(&mut left) {
-        if case.short / sides::TOOL == 1 {
-            let Some(pair) = sides::Pair::read(case, &mut left) else { break };
-            out.extend(sides::judge(&pair).bytes());
-        } else {
-            out.extend(judge::judge(&case).bytes());
+        // a tool's number is the fourth word by a thousand
+        match case.short / 1000 * 1000 {
+            sides::TOOL => {
+                let Some(pair) = sides::Pair::read(case, &mut left) else { break };
+                out.extend(sides::judge(&pair).bytes());
+            }
+            loops::TOOL => {
+                let Some(asked) = loops::Asked::read(case, &mut left) else { break };
+                out.extend(loops::judge(&asked).bytes());
+            }
+            _ => out.extend(judge::judge(&case).bytes()),
         }
     }
     std::io::stdout().write_all(&out).is_err() as i32

@@ -69,6 +69,19 @@ fn one_step(step: usize, rule: OriginalRule, lists: &HashMap<String, Expr>) -> O
     }
 }
 
+/// Whether the original's first step changes a tree.
+pub fn rotates(tree: &Tree<Text>) -> bool {
+    let rule = OriginalRule { name: String::new(), ty: RuleType::Normal, expr: to_expr(tree) };
+    original::rotator::rotate(rule.clone()) != rule
+}
+
+/// Whether its second step, alone, makes a tree of a rule of that type a Skip, names looked up in the table.
+pub fn skips(tree: &Tree<Text>, ty: u32, table: &[Rule<Text>]) -> bool {
+    let lists: HashMap<String, Expr> = table.iter().map(|rule| (string(&rule.name), to_expr(&rule.tree))).collect();
+    let rule = OriginalRule { name: String::new(), ty: rule_type(ty), expr: to_expr(tree) };
+    matches!(original::skipper::skip(rule, &lists).expr, Expr::Skip(_))
+}
+
 /// The original's own rules for a table.
 pub fn to_original(table: &[Rule<Text>]) -> Vec<OriginalRule> {
     table.iter().map(|rule| OriginalRule { name: string(&rule.name), ty: rule_type(rule.ty), expr: to_expr(&rule.tree) }).collect()

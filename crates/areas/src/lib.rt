@@ -118,6 +118,13 @@ pub fn words_of(area: &[u32], count: u32) -> usize
     least(area.len(), WORDS * wide(count))
 }
 
+// The same where the count is one of words.
+pub fn singles_of(area: &[u32], count: u32) -> usize
+    ensures { λ r. ⌜ Counts r (now (area .entry)) ⌝ }
+{
+    least(area.len(), wide(count))
+}
+
 pub fn bytes_of(area: &[u8], count: u32) -> usize
     ensures { λ r. ⌜ Counts r (now (area .entry)) ⌝ }
 {

@@ -24,10 +24,10 @@ use Rattle.rows.proofs.Insides.{inside-within}
 use Rattle.names.specs.Names.{endWord, rowsBefore}
 use Rattle.names.proofs.Finding.{rule-count, there, rule-words, body-at}
 use Rattle.writing.specs.Writes.{stored}
-use Rattle.refusals.specs.Check.{lent, lowest, Passed}
+use Rattle.refusals.specs.Check.{lent, lowest, Passed, tableOf}
 use Rattle.refusals.proofs.Verdicts.{counts}
 use Rattle.comparison.specs.Compare as compare
-use Rattle.comparison.specs.Compare.{Entry, fullList, maxEntries, listWords, leftEntries, rightEntries, tableOf, compareWords}
+use Rattle.comparison.specs.Compare.{Entry, fullList, maxEntries, listWords, leftEntries, rightEntries, compareWords}
 use Rattle.comparison.proofs.Whole.{Fine, fine-table, fine-most}
 use Rattle.comparer.specs.Pairs.{Paired, Kept}
 use Rattle.comparer.specs.Lists.{Side, Standing, RuleIs, Added, unmetFrom, seen}

@@ -15,9 +15,9 @@ ghost use Rattle.grammar.specs.Table.{Rule, Table, resolveRule, resolveTable};
 ghost use Rattle.rows.specs.Rows.{LitInside, At, StandsIn, cells};
 ghost use Rattle.names.specs.Names.{memoryWord, rowsBefore, NamesInside, AllIndexed};
 ghost use Rattle.writing.specs.Writes.{stored};
-ghost use Rattle.refusals.specs.Check.{lent, lowest, Passed};
+ghost use Rattle.refusals.specs.Check.{lent, Passed, tableOf};
 ghost use Rattle.comparison.specs.Compare as compare;
-ghost use Rattle.comparison.specs.Compare.{entryWidth, fullList, firstUnlike, lookup, typeEntry, commonEntries, ruleEntries, leftEntries, compareWords, refused, tableOf};
+ghost use Rattle.comparison.specs.Compare.{entryWidth, fullList, firstUnlike, lookup, typeEntry, commonEntries, ruleEntries, leftEntries, compareWords, refused};
 ghost use Rattle.comparison.specs.Shown as literal;
 ghost use Rattle.comparer.specs.Pairs.{Paired, PairedOne, Kept};
 ghost use Rattle.comparer.specs.Lists.{SameRun, differsAt, Side, Standing, RuleIs, Added, unmetFrom, seen};
@@ -37,7 +37,6 @@ use names::END;
 use names::Found;
 use names::MEMORY;
 use refusals::FULL_MARKS;
-use refusals::Verdict;
 use rows::Lookup;
 use rows::wide;
 
@@ -401,17 +400,6 @@ fn is_short(list: usize, left_marks: usize, right_marks: usize) -> bool
     right_marks < FULL_MARKS
 }
 
-// The lowest of refusals 2 to 6 that a table meets, 0 where there is none.
-fn refusal(rules: &[u32], rows: &[u32], text: &[u8], marks: &mut [u32]) -> u32
-    requires { ⌜ fullMarks ≤ length (now marks) ⌝ }
-    ensures { λ n. ⌜ (n ≡ lowest (lent (now (rules .entry)) (now (rows .entry)) (now (text .entry)))) × (n ≡ 0 → Passed (lent (now (rules .entry)) (now (rows .entry)) (now (text .entry))) (now (marks .exit))) ⌝ }
-{
-    match refusals::check(rules, rows, text, marks) {
-        Verdict::Refused(n) => n,
-        Verdict::Fine => 0,
-    }
-}
-
 // A refusal, and whose table it is.
 fn refused(number: u32, side: u32) -> Compared
     ensures { λ r. ⌜ (r .number ≡ number) × (r .side ≡ side) × (r .count ≡ 0) ⌝ }
@@ -440,11 +428,11 @@ pub fn compare(
     if is_short(list.len(), left_marks.len(), right_marks.len()) {
         return refused(REFUSED_AREA, LEFT);
     }
-    let n = refusal(left_rules, left_rows, left_text, left_marks);
+    let n = refusals::refusal(left_rules, left_rows, left_text, left_marks);
     if n != 0 {
         return refused(n, LEFT);
     }
-    let m = refusal(right_rules, right_rows, right_text, right_marks);
+    let m = refusals::refusal(right_rules, right_rows, right_text, right_marks);
     if m != 0 {
         return refused(m, RIGHT);
     }

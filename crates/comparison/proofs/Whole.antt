@@ -15,10 +15,10 @@ use Rattle.grammar.specs.Reading.{readTable, inputKinds}
 use Rattle.grammar.specs.Refusals.{maxRules, shortMarks, repeated, names, badCounts, badText, badNames, zeroCounts}
 use Rattle.grammar.proofs.Words.{table-is}
 use Rattle.names.proofs.Finding.{rule-count}
-use Rattle.refusals.specs.Check.{lowest, lowestRead, lowestNamed}
+use Rattle.refusals.specs.Check.{lowest, lowestRead, lowestNamed, tableOf}
 use Rattle.refusals.proofs.Fours.{neither-left}
 use Rattle.refusals.proofs.Verdicts.{counts}
-use Rattle.comparison.specs.Compare.{Compared, compare, compareWords, fullList, maxEntries, listed, refused, tableOf}
+use Rattle.comparison.specs.Compare.{Compared, compare, compareWords, fullList, maxEntries, listed, refused}
 use Rattle.comparison.specs.Same.{SameRules}
 use Rattle.comparison.proofs.Empty.{empty-same, same-empty}
 use Rattle.comparison.proofs.Most.{at-most}

@@ -1,19 +1,19 @@
 -- Two tables side by side (02, No. 1): the list of their differences, and the whole answer. Assumes nothing.
 use mathlib.Core.Bool.{Bool, _||_, not, cond}
-use mathlib.Core.List.{List, [], _∷_, _++_, map}
+use mathlib.Core.List.{List, [], _∷_, _++_}
 use mathlib.Core.Option.{Option, none, some}
 use Prim.Native.Nat.{ℕ, suc, _*_}
 use native.Mathlib.Decide.{ℕ-discrete}
 use lib.ListN.{length}
 use lib.Dec.{eqb, ltb}
-use Rattle.grammar.specs.Basic.{Bytes, holds, bytes-discrete, sameBytes, member, orElse}
+use Rattle.grammar.specs.Basic.{Bytes, holds, bytes-discrete, sameBytes, member}
 use Rattle.grammar.specs.Numbers.{refusedArea}
-use Rattle.grammar.specs.Table.{Rule, Table, Words, resolveTable}
-use Rattle.grammar.specs.Reading.{readTable, inputKinds}
-use Rattle.grammar.specs.Refusals.{maxRules, shortMarks, names}
+use Rattle.grammar.specs.Table.{Rule, Table, Words}
+use Rattle.grammar.specs.Reading.{readTable}
+use Rattle.grammar.specs.Refusals.{shortMarks, names}
 use Rattle.grammar.specs.Optimize.{over}
 use Rattle.rows.specs.Rows.{Cell, Cell-discrete, cells}
-use Rattle.refusals.specs.Check.{lowest}
+use Rattle.refusals.specs.Check.{lowest, tableOf}
 
 -- "each rule found only left, each with another type, each common rule whose trees differ with the first differing row; rules found only right"
 pub data Entry : Type 0 where
@@ -111,10 +111,6 @@ maxEntries = 512
 
 abbrev pub fullList : ℕ
 fullList = entryWidth * maxEntries
-
--- the table that words stand for, where none of refusals 2 to 6 holds
-abbrev pub tableOf : Words → Table Bytes
-tableOf w = resolveTable (w .text) (orElse (readTable inputKinds (w .rules) (w .rows)) [])
 
 -- "then 2 to 6 for the two tables, the left one's first"
 unfoldable pub compareWords : (left right : Words) (list leftMarks rightMarks : List ℕ) → Compared

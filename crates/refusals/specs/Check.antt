@@ -2,12 +2,12 @@
 use mathlib.Core.Path.{_≡_}
 use mathlib.Core.Bool.{true, false, cond}
 use mathlib.Core.Logic.{_⊎_}
-use mathlib.Core.List.{List}
+use mathlib.Core.List.{List, []}
 use mathlib.Core.Option.{Option, none, some}
 use Prim.Native.Nat.{ℕ, _≤_}
 use lib.ListN.{length}
 use Rattle.grammar.specs.Numbers.{refusedText}
-use Rattle.grammar.specs.Basic.{Bytes}
+use Rattle.grammar.specs.Basic.{Bytes, orElse}
 use Rattle.grammar.specs.Rows.{Span}
 use Rattle.grammar.specs.Table.{Table, Words, resolveTable}
 use Rattle.grammar.specs.Reading.{readTable, inputKinds}
@@ -34,6 +34,10 @@ lowestRead text (some t) = cond (badText text t) refusedText (lowestNamed (resol
 unfoldable pub lowest : Words → ℕ
 unfolding readTable lowestRead
 lowest w = cond (badCounts w) 2 (lowestRead (w .text) (readTable inputKinds (w .rules) (w .rows)))
+
+-- the table that words stand for, where none of them holds
+abbrev pub tableOf : Words → Table Bytes
+tableOf w = resolveTable (w .text) (orElse (readTable inputKinds (w .rules) (w .rows)) [])
 
 -- document 01's number of each answer
 abbrev pub numberOf : Verdict → ℕ

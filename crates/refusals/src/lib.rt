@@ -11,7 +11,7 @@ ghost use Rattle.rows.specs.Rows.{Tells, kindAt};
 ghost use Rattle.names.specs.Names.{nameOf, rowsBefore, NamesInside, fewRules};
 ghost use Rattle.refusals.specs.Local.{upTo, usesX, usesY, unusedZero, OneFits, TwoFits, SkipFits, RowFits, IsTree, IsTable};
 ghost use Rattle.refusals.specs.Bytes.{anyFour, badName, badRow, zeroRow, High, Indexed};
-ghost use Rattle.refusals.specs.Check.{lent, NamesChecked, Checked};
+ghost use Rattle.refusals.specs.Check.{lent, lowest, NamesChecked, Passed, Checked};
 use grammar::IDENT;
 use grammar::LAST_ASCII;
 use grammar::LENGTH;
@@ -553,4 +553,15 @@ pub fn check(rules: &[u32], rows: &[u32], text: &[u8], marks: &mut [u32]) -> Ver
         return Verdict::Refused(REFUSED_TEXT);
     }
     check_names(rules, rows, text, marks)
+}
+
+// The lowest of refusals 2 to 6 that a table meets, 0 where there is none.
+pub fn refusal(rules: &[u32], rows: &[u32], text: &[u8], marks: &mut [u32]) -> u32
+    requires { ⌜ fullMarks ≤ length (now marks) ⌝ }
+    ensures { λ n. ⌜ (n ≡ lowest (lent (now (rules .entry)) (now (rows .entry)) (now (text .entry)))) × (n ≡ 0 → Passed (lent (now (rules .entry)) (now (rows .entry)) (now (text .entry))) (now (marks .exit))) ⌝ }
+{
+    match check(rules, rows, text, marks) {
+        Verdict::Refused(n) => n,
+        Verdict::Fine => 0,
+    }
 }

@@ -32,17 +32,10 @@ pub fn next() -> Place {
         };
     }
     Place {
-        rule: long_at(&b, 0),
-        row: long_at(&b, 8),
+        rule: input::long_at(&b, 0),
+        row: input::long_at(&b, 8),
         whole: true,
     }
-}
-
-// Eight bytes as a number.
-fn long_at(b: &[u8], i: usize) -> usize
-    requires { ⌜ i + 8 ≤ length (now b) ⌝ }
-{
-    input::count(input::word_at(b, i)) | input::count(input::word_at(b, i + 4)) << 32
 }
 
 // The answer to the left table c, whose words and text stand in `bytes`, and the right table d, whose stand in `more`.

@@ -123,6 +123,13 @@ pub fn word_at(b: &[u8], i: usize) -> u32
     wide(b[i]) | wide(b[i + 1]) << 8 | wide(b[i + 2]) << 16 | wide(b[i + 3]) << 24
 }
 
+// Eight bytes as a number.
+pub fn long_at(b: &[u8], i: usize) -> usize
+    requires { ⌜ i + 8 ≤ length (now b) ⌝ }
+{
+    count(word_at(b, i)) | count(word_at(b, i + 4)) << 32
+}
+
 fn wide(b: u8) -> u32 {
     b as u32
 }

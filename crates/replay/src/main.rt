@@ -12,8 +12,12 @@
 // literal is asked for. The answer is number, side and count, then found, offset and length of that literal, then the list's entries, four
 // words each, and the byte, which speaks of the list. `short` counts the list and the two marks, 1 to 3.
 //
+// Explaining is tool 2: behind the table stand eight bytes, the row that is asked about. The answer is number, answer, rule, at, met and opened, then
+// so many words of the list as are opened, and the byte, which speaks of the list. `short` counts the list and the marks, 1 and 2.
+//
 // A case that is cut off ends the run, and so does one with more than 1,040 rule words, 16,400 row words or 65,600 bytes of text.
 mod compare;
+mod explain;
 mod input;
 mod output;
 
@@ -30,6 +34,8 @@ use output::ANSWERS;
 const TOOL: u32 = 1000;
 
 const COMPARE: u32 = 1;
+
+const EXPLAIN: u32 = 2;
 
 // Where the run stands: the answers not yet written are [..put].
 struct State {
@@ -66,6 +72,9 @@ fn turn(bytes: &mut [u8; CASE_BYTES], answers: &mut [u8; ANSWERS], put: usize) -
     if c.short / TOOL == COMPARE {
         return beside(c, bytes, answers, put);
     }
+    if c.short / TOOL == EXPLAIN {
+        return explained(c, bytes, answers, put);
+    }
     State {
         put: answer(c, bytes, answers, put),
         on: true,
@@ -89,6 +98,22 @@ fn beside(c: Case, bytes: &[u8], answers: &mut [u8; ANSWERS], put: usize) -> Sta
     }
     State {
         put: compare::answer(c, bytes, d, &more, at, answers, put),
+        on: true,
+    }
+}
+
+// One case of a table, which is there, and a row of it.
+fn explained(c: Case, bytes: &[u8], answers: &mut [u8; ANSWERS], put: usize) -> State
+    requires { ⌜ Counted c ⌝ }
+    requires { ⌜ (135360 ≤ length (now bytes)) × (put ≤ 131072) ⌝ }
+    ensures { λ r. ⌜ r .put ≤ 131072 ⌝ }
+{
+    let at = explain::next();
+    if !at.whole {
+        return State { put, on: false };
+    }
+    State {
+        put: explain::answer(c, bytes, at.row, answers, put),
         on: true,
     }
 }

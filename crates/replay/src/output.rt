@@ -118,6 +118,17 @@ pub fn give_list(answers: &mut [u8], put: usize, area: &[u32], count: u32) -> us
     put_bytes(answers, given.put, &flag)
 }
 
+// The same for a list of single words.
+pub fn give_singles(answers: &mut [u8], put: usize, area: &[u32], count: u32) -> usize
+    requires { ⌜ (put ≤ length (now answers)) × (1 ≤ length (now answers)) × (4 * length (now area) ≤ length (now answers)) ⌝ }
+    ensures { λ r. ⌜ r ≤ length (now (answers .entry)) ⌝ }
+{
+    let n = areas::singles_of(area, count);
+    let next = put_words(answers, put, &area[..n]);
+    let flag = [areas::same_words(area, n) as u8];
+    put_bytes(answers, next, &flag)
+}
+
 // A place with n bytes of room.
 fn room(answers: &[u8], put: usize, n: usize) -> usize
     requires { ⌜ (put ≤ length (now answers)) × (n ≤ length (now answers)) ⌝ }

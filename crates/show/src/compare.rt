@@ -140,7 +140,7 @@ fn entry<'a>(
     print::line();
 }
 
-fn name(rules: &[u32], text: &[u8], rule: u32) {
+pub fn name(rules: &[u32], text: &[u8], rule: u32) {
     let i = print::wide(rule);
     if i < rules.len() / RULE_WIDTH {
         let at = RULE_WIDTH * i;
@@ -210,7 +210,7 @@ fn kind(rules: &[u32], rows: &[u32], rule: usize, row: usize) {
 }
 
 // How many rows a rule has; none, if it is not there.
-fn count(rules: &[u32], rule: usize) -> usize {
+pub fn count(rules: &[u32], rule: usize) -> usize {
     if rule < rules.len() / RULE_WIDTH {
         return print::wide(rules[RULE_WIDTH * rule + ROWS]);
     }
@@ -218,7 +218,7 @@ fn count(rules: &[u32], rule: usize) -> usize {
 }
 
 // The first word of a rule's rows.
-fn first(rules: &[u32], rows: &[u32], rule: usize) -> usize
+pub fn first(rules: &[u32], rows: &[u32], rule: usize) -> usize
     ensures { λ r. ⌜ r ≤ length (now (rows .entry)) ⌝ }
 {
     let mut at = 0;
@@ -230,7 +230,7 @@ fn first(rules: &[u32], rows: &[u32], rule: usize) -> usize
     at
 }
 
-fn least(a: usize, b: usize) -> usize
+pub fn least(a: usize, b: usize) -> usize
     ensures { λ r. ⌜ r ≤ b ⌝ }
 {
     if a < b { a } else { b }

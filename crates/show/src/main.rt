@@ -1,5 +1,7 @@
-// Prints document 01's worked examples W1 to W12: each table before and after the call, the report, and what changed in each rule.
+// Prints document 01's worked examples W1 to W12: each table before and after the call, why its loops stay loops, the report, and
+// what changed in each rule.
 mod compare;
+mod explain;
 mod print;
 mod tables;
 
@@ -9,6 +11,7 @@ ghost use lib.ListN.{length};
 fn main() {
     print::text(
         b"Worked examples W1 to W12. A rule: its name and type, then its rows in postfix order: index, size, kind.\n\
+Below them each loop (Rep): (!e ~ ANY)* in an Atomic rule becomes a Skip if e, its list, is a string or a right-nested Choice of strings, names looked up.\n\
 A report: rows before > after rotate, skip, unroll, concatenate, factor, list and restore. Changes: the first row of a rule that is another.\n",
     );
     let mut words = [0; 632];

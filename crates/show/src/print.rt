@@ -2,6 +2,7 @@
 ghost use Prim.Native.Nat.{_+_, _*_, _≤_};
 ghost use lib.ListN.{length};
 use crate::compare;
+use crate::explain;
 use grammar::IDENT;
 use grammar::INSENS;
 use grammar::LENGTH;
@@ -36,7 +37,7 @@ pub fn line() {
     text(b"\n");
 }
 
-fn space() {
+pub fn space() {
     text(b" ");
 }
 
@@ -44,6 +45,7 @@ fn space() {
 pub fn both(rules: &[u32], rows: &[u32], literals: &[u8]) {
     text(b"  before\n");
     table(rules, rows, literals);
+    explain::loops(rules, rows, literals);
     call(rules, rows, literals);
 }
 

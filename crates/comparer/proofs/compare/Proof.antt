@@ -8,10 +8,10 @@ use lib.Dec.{ltb}
 use lib.ListN.{length}
 use Rattle.grammar.specs.Table.{Words}
 use Rattle.grammar.specs.Refusals.{fullMarks, shortMarks}
-use Rattle.refusals.specs.Check.{lent, lowest}
+use Rattle.refusals.specs.Check.{lent, lowest, tableOf}
 use Rattle.refusals.proofs.Fours.{neither-left, neither-right}
 use Rattle.comparison.specs.Compare as compare
-use Rattle.comparison.specs.Compare.{fullList, maxEntries, tableOf}
+use Rattle.comparison.specs.Compare.{fullList, maxEntries}
 use Rattle.comparer.proofs.Adding.{length-list}
 use Rattle.comparer.proofs.Sides.{short-is, left-is, right-is, listed-is, whole-most}
 use Rattle.comparer.proofs.compare.Statement.{statement}

@@ -1,9 +1,9 @@
 use mathlib.Core.Path.{sym, ap, _∙_}
 use native.Mathlib.Omega.{arith}
 use Rattle.refusals.specs.Check.{numberOf}
 use borrow.Author.Needs.{needs}
-use Rattle.comparer.proofs.refusal.Statement.{statement}
-use Rattle.comparer.proofs.refusal.Tie as tie
+use Rattle.refusals.proofs.refusal.Statement.{statement}
+use Rattle.refusals.proofs.refusal.Tie as tie
 
 check-requires : tie.Need-check-requires
 check-requires c κs = search needs

@@ -1,0 +1,3 @@
+-- Why a loop stayed a loop, in lent words.
+pub mod Reading
+pub mod Answers

@@ -1,0 +1,3 @@
+-- Why a loop stayed a loop (02, No. 2).
+pub mod Ends
+pub mod Explain
