@@ -19,13 +19,13 @@ use Rattle.rows.proofs.Views.{shape_in, shape_in_lem}
 -- of a table whose literals all do
 strs_within : (n : ℕ) {w : List ℕ} {j : ℕ} (ss : List Span) → Inside w n → AtStrs w j ss → AllWithin n ss
 strs_within n [] ins a = tt
-strs_within n (s ∷ ss) ins a = (in_text n ins (root_found (at_first a)) (lit_shape Str), strs_within n ss ins (at_others a))
+strs_within n {j = j} (s ∷ ss) ins a = (in_text n ins (root_found (at_first a)) (lit_shape Str), strs_within n {j = j + 1} ss ins (at_others a))
 
 pub inside_within : (n : ℕ) {w : List ℕ} {i : ℕ} (r : Expr Span) → Inside w n → At w i r → Within n r
 inside_within n (lit k s) ins a = in_text n ins (root_found a) (lit_shape k)
 inside_within n (fixed f) ins a = tt
 inside_within n (skip ss) ins a = strs_within n ss ins (at_strs a)
-inside_within n (un u e) ins a = inside_within n e ins (at_un a)
+inside_within n {i = i} (un u e) ins a = inside_within n {i = i - 1} e ins (at_un a)
 inside_within n (bin b l r) ins a = (inside_within n l ins (at_left_lem a), inside_within n r ins (at_right_lem a))
 
 pub stands_in : (n : ℕ) {w : List ℕ} {i : ℕ} → Inside w n → Stands w i → StandsIn w i n
@@ -63,7 +63,7 @@ strs_rows n [] a v k lo hi = absurd (omega arith)
 strs_rows n {w} {j} (s ∷ ss) a v k lo hi =
     below_or k (j + 1)
     (λ l. let e : j ≡ k = omega arith in subst (λ (m : ℕ). LitInside w n m) e (lit_there n Str s (at_first a) v.0))
-    (λ l. strs_rows n ss (at_others a) v.1 k l (omega arith))
+    (λ l. strs_rows n {j = j + 1} ss (at_others a) v.1 k l (omega arith))
 
 pub within_rows : (n : ℕ) {w : List ℕ} {i : ℕ} (r : Expr Span) → At w i r → Within n r → (j k : ℕ) → i + 1 ≡ j + size r → j ≤ k → k ≤ i → LitInside w n k
 within_rows n {w} {i} (lit c s) a v j k h lo hi = let e : i ≡ k = omega arith in subst (λ (m : ℕ). LitInside w n m) e (lit_there n c s a v)
@@ -74,7 +74,7 @@ within_rows n {w} {i} (skip ss) a v j k h lo hi =
     (λ l. let e : i ≡ k = omega arith in subst (λ (m : ℕ). LitInside w n m) e (other_there n (skip ss) a skips_lit))
 within_rows n {w} {i} (un u c) a v j k h lo hi =
     below_or k i
-    (λ l. within_rows n c (at_un a) v j k (omega (arith, size_pos c)) lo (omega arith))
+    (λ l. within_rows n {i = i - 1} c (at_un a) v j k (omega (arith, size_pos c)) lo (omega arith))
     (λ l. let e : i ≡ k = omega arith in subst (λ (m : ℕ). LitInside w n m) e (other_there n (un u c) a one_lit))
 within_rows n {w} {i} (bin b l r) a v j k h lo hi =
     below_or k (j + size l)

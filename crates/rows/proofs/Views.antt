@@ -252,12 +252,12 @@ strs_unique : {w : List ℕ} {j : ℕ} (ss ts : List Span) → length ss ≡ len
 strs_unique [] [] e a b = refl
 strs_unique [] (p ∷ ts) e a b = absurd (omega arith)
 strs_unique (s ∷ ss) [] e a b = absurd (omega arith)
-strs_unique (s ∷ ss) (p ∷ ts) e a b =
+strs_unique {j = j} (s ∷ ss) (p ∷ ts) e a b =
     let t = root (at_first a) in
     let u = root (at_first b) in
     let o : s.0 ≡ p.0 = sym t.x ∙ u.x in
     let l : s.1 ≡ p.1 = sym t.y ∙ u.y in
-    let q : ss ≡ ts = strs_unique ss ts (omega arith) (at_others a) (at_others b) in
+    let q : ss ≡ ts = strs_unique {j = j + 1} ss ts (omega arith) (at_others a) (at_others b) in
     rw (o, l, q)
 
 pub at_unique : {w : List ℕ} {i : ℕ} (r s : Expr Span) → At w i r → At w i s → r ≡ s
@@ -268,9 +268,9 @@ at_unique (skip ss) s a b =
     let q : ss ≡ v.strings = strs_unique ss v.strings v.count (at_strs a) (rw (← v.count) at v.at) in
     let e : s ≡ skip v.strings = v.is in
     cc
-at_unique (un op c) s a b =
+at_unique {i = i} (un op c) s a b =
     let v = as_one (root_found a) b (un_shape op) in
-    let q : c ≡ v.child = at_unique c v.child (at_un a) v.at in
+    let q : c ≡ v.child = at_unique {i = i - 1} c v.child (at_un a) v.at in
     let e : s ≡ un op v.child = one_is op v refl in
     cc
 at_unique (bin op l c) s a b =
