@@ -21,7 +21,7 @@ stands r a j e = rw e (record { tree = r; at = a })
 
 strs_stand : {w : List ℕ} {k : ℕ} (ss : List Span) → AtStrs w k ss → (j : ℕ) → k ≤ j → j < k + length ss → Stands w j
 strs_stand [] a j p q = absurd (omega arith)
-strs_stand {w} {k} (s ∷ ss) a j p q = go (ltb k j) refl (strs_stand ss (at_others a) j)
+strs_stand {w} {k} (s ∷ ss) a j p q = go (ltb k j) refl (strs_stand {k = k + 1} ss (at_others a) j)
   where
     go : (b : Bool) → ltb k j ≡ b → (k + 1 ≤ j → j < k + 1 + length ss → Stands w j) → Stands w j
     go true e h = let l : k < j = ltb-true k j e in h (omega arith) (omega arith)
@@ -35,7 +35,7 @@ rows_stand {w} {i} (skip ss) a j p q = go (ltb j i) refl
     go : (b : Bool) → ltb j i ≡ b → Stands w j
     go true e = let l : j < i = ltb-true j i e in strs_stand ss (at_strs a) j (omega (arith, (root a).most)) (omega (arith, (root a).most))
     go false e = let l : i ≤ j = ltb-false j i e in stands (skip ss) a j (omega arith)
-rows_stand {w} {i} (un u c) a j p q = go (ltb j i) refl (rows_stand c (at_un a) j)
+rows_stand {w} {i} (un u c) a j p q = go (ltb j i) refl (rows_stand {i = i - 1} c (at_un a) j)
   where
     go : (b : Bool) → ltb j i ≡ b → (i - 1 < j + size c → j ≤ i - 1 → Stands w j) → Stands w j
     go true e h = let l : j < i = ltb-true j i e in h (omega arith) (omega arith)
@@ -70,7 +70,7 @@ module _ (f : E → E) (t : Bytes) {w : List ℕ} where
   bottom_up_idle (lit k s) a h = here (lit k s) a h
   bottom_up_idle (fixed g) a h = here (fixed g) a h
   bottom_up_idle (skip ss) a h = here (skip ss) a h
-  bottom_up_idle (un u e) a h = ap (λ (x : E). f (un u x)) (bottom_up_idle e (at_un a) (under u e a h)) ∙ here (un u e) a h
+  bottom_up_idle {i = i} (un u e) a h = ap (λ (x : E). f (un u x)) (bottom_up_idle {i = i - 1} e (at_un a) (under u e a h)) ∙ here (un u e) a h
   bottom_up_idle (bin b l r) a h = ap₂ (λ (x y : E). f (bin b x y)) (bottom_up_idle l (at_left_lem a) (on_left b l r a h)) (bottom_up_idle r (at_right_lem a) (on_right b l r a h)) ∙ here (bin b l r) a h
 
   in_depth : (n : ℕ) {i : ℕ} (r : Expr Span) → At w i r → Idle f t w i (size r) → top_down_in n f (resolve t r) ≡ resolve t r
