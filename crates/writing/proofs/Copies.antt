@@ -106,11 +106,11 @@ module _ (t : Bytes) (w : List ℕ) where
 module _ (t : Bytes) {w : List ℕ} where
   pub text_strs : {j : ℕ} (ss : List Span) → AtStrs w j ss → run_text t w j (length ss) ≡ joined (map (bytes_at t) ss)
   text_strs [] a = refl
-  text_strs (s ∷ ss) a = rw (lit_text t (root_found (at_first a)) (lit_shape Str), text_strs ss (at_others a))
+  text_strs {j = j} (s ∷ ss) a = rw (lit_text t (root_found (at_first a)) (lit_shape Str), text_strs {j = j + 1} ss (at_others a))
 
   pub words_strs : {j : ℕ} (o : ℕ) (ss : List Span) → AtStrs w j ss → run_words o t w j (length ss) ≡ str_rows (spans o (map (bytes_at t) ss))
   words_strs o [] a = refl
-  words_strs o (s ∷ ss) a = rw (lit_words t (root_found (at_first a)) o (lit_shape Str), lit_text t (root_found (at_first a)) (lit_shape Str), words_strs (o + length (bytes_at t s)) ss (at_others a))
+  words_strs {j = j} o (s ∷ ss) a = rw (lit_words t (root_found (at_first a)) o (lit_shape Str), lit_text t (root_found (at_first a)) (lit_shape Str), words_strs {j = j + 1} (o + length (bytes_at t s)) ss (at_others a))
 
 -- ---- the run of a tree
 
@@ -135,7 +135,7 @@ module _ (t : Bytes) {w : List ℕ} where
       let e : i - length ss ≡ j = omega arith in
       text_end t w j i (length ss) _ (omega arith) (text_strs t ss (rw e at (at_strs a))) (other_text t (root_found a) skips_not)
   text_tree {i} j (un u c) a h =
-      text_end t w j i (size c) _ (omega arith) (text_tree j c (at_un a) (omega (arith, size_pos c))) (other_text t (root_found a) (one_not _ (un_shape u)))
+      text_end t w j i (size c) _ (omega arith) (text_tree {i = i - 1} j c (at_un a) (omega (arith, size_pos c))) (other_text t (root_found a) (one_not _ (un_shape u)))
   text_tree {i} j (bin b l r) a h =
       text_end t w j i (size l + size r) _ (omega arith)
       (text_both t w j (size l) (size r) _ _ (text_tree j l (at_left_lem a) (omega (arith, size_pos l))) (text_tree (j + size l) r (at_right_lem a) (omega (arith, size_pos l))))
@@ -150,7 +150,7 @@ module _ (t : Bytes) {w : List ℕ} where
       words_end t w o j i (length ss) _ _ (omega arith) (words_strs t o ss (rw e at (at_strs a))) (λ x. other_words t (root_found a) x skips_not) ∙ rw n
   words_tree {i} o j (un u c) a h =
       let n : size c ≡ size (packed o (resolve t c)) = sym (size_packed o (resolve t c) ∙ size_resolve t c) in
-      words_end t w o j i (size c) _ _ (omega arith) (words_tree o j c (at_un a) (omega (arith, size_pos c))) (λ x. other_words t (root_found a) x (one_not _ (un_shape u))) ∙ rw n
+      words_end t w o j i (size c) _ _ (omega arith) (words_tree {i = i - 1} o j c (at_un a) (omega (arith, size_pos c))) (λ x. other_words t (root_found a) x (one_not _ (un_shape u))) ∙ rw n
   words_tree {i} o j (bin b l r) a h =
       let hl : i - 1 - size r + 1 ≡ j + size l = omega (arith, size_pos l) in
       let x : ℕ = o + length (text_of (resolve t l)) in
