@@ -74,7 +74,7 @@ pub low_at : {w : List ℕ} {i : ℕ} (r : Expr Span) → At w i r → (j : ℕ)
 low_at {w} (lit k s) a j e = subst (λ (n : ℕ). At w n (lit k s)) (omega arith) a
 low_at {w} (fixed f) a j e = subst (λ (n : ℕ). At w n (fixed f)) (omega arith) a
 low_at {w} (skip ss) a j e = subst (λ (n : ℕ). At w n (skip ss)) (omega arith) a
-low_at {w} (un u r) a j e = low_at r (at_un a) j (omega arith)
+low_at {w} {i = i} (un u r) a j e = low_at {i = i - 1} r (at_un a) j (omega arith)
 low_at {w} (bin b l r) a j e = subst (λ (n : ℕ). At w n (bin b l r)) (omega arith) a
 
 -- its size word is no larger
@@ -144,7 +144,7 @@ node_at (fixed f) a k j h e = absurd (omega arith)
 node_at (skip ss) a k j h e = absurd (omega arith)
 node_at (bin b l r) a k j h e = absurd (omega arith)
 node_at {w} (un u r) a zero j h e = record { op = u; child = r; split = refl; at = subst (λ (n : ℕ). At w n (un u r)) (omega arith) a }
-node_at (un u r) a (suc k) j h e = let n = node_at r (at_un a) k j (omega arith) (omega arith) in record { op = n.op; child = n.child; split = n.split; at = n.at }
+node_at {i = i} (un u r) a (suc k) j h e = let n = node_at {i = i - 1} r (at_un a) k j (omega arith) (omega arith) in record { op = n.op; child = n.child; split = n.split; at = n.at }
 
 pub record Up (w o₀ : List ℕ) (base root first : ℕ) (q : Place) (o : List ℕ) (at i : ℕ) : Type 0 where
   pub low : base ≤ i
