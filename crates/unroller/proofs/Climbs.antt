@@ -68,9 +68,9 @@ under (lit x s) a z h (suc k) j b e = absurd (omega arith)
 under (fixed f) a z h (suc k) j b e = absurd (omega arith)
 under (skip ss) a z h (suc k) j b e = absurd (omega arith)
 under (bin c l r) a z h (suc k) j b e = absurd (omega arith)
-under (un u r) a z h (suc k) j b e =
+under {i = i} (un u r) a z h (suc k) j b e =
     let c = or_false (zero_un u) (any_node zero_count r) z in
-    let n = under r (at_un a) c.1 (omega arith) k j b (omega arith) in
+    let n = under {i = i - 1} r (at_un a) c.1 (omega arith) k j b (omega arith) in
     record { tree = n.tree; at = n.at; run = n.run; counts = n.counts; fits = λ e p o t f. n.fits e p o t (fits_larger (unrolled_larger u _ c.0) f) }
 
 -- the rows after `base` up to row i stand
