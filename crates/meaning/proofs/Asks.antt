@@ -79,6 +79,7 @@ module _ {t : Table Bytes} {s : Bytes} where
   by_un Rep e (failed d is) = rep_end d
   by_un Rep e (went d (on f)) = rep_go d f
   by_un RepOnce e (nows (goes d)) = once d
+  by_un Push e h = elim h [ ]
   by_un RestoreOnErr e (nows (goes d)) = restored d
   by_un (RepExact n) e (nows (goes d)) = exact d
   by_un (RepMin zero) e (nows (goes d)) = min_rep d
@@ -89,15 +90,20 @@ module _ {t : Table Bytes} {s : Bytes} where
   by_un (RepMinMax a (suc b)) e (failed d is) = count_end d refl
   by_un (RepMinMax a (suc b)) e (went d (on f)) = count_go d f
 
+  this : {p : ℕ} {q r : Res} → Asked (Out t s) t p (now (done q)) r → q ≡ r
+  this (nows is) = refl
+
   by_name : {p : ℕ} {r : Res} (x : Bytes) (b : Bool) → same_bytes x ANY ≡ b → Asked (Out t s) t p (cond b (now (done (one every s p))) (rule x)) r → Out t s (lit Ident x) p r
   by_name x true a (nows is) = any a refl
   by_name x false a (rules l d) = call a l d
 
   pub by : {p : ℕ} {r : Res} (e : E) → Asked (Out t s) t p (ask s e p) r → Out t s e p r
-  by (lit Str w) (nows is) = str refl
-  by (lit Insens w) (nows is) = insens refl
+  by (lit Str w) d = str (this d)
+  by (lit Insens w) d = insens (this d)
   by (lit Ident x) d = by_name x (same_bytes x ANY) refl d
-  by (fixed (Range a b)) (nows is) = range refl
+  by (fixed (Range a b)) d = range (this d)
+  by (fixed (PeekSlice a b)) d = elim d [ ]
+  by (fixed (PeekFrom a)) d = elim d [ ]
   by (skip ss) (nows (goes d)) = skips d
   by (un u e) d = by_un u e d
   by (bin Seq a b) (failed d is) = seq_no d
@@ -105,16 +111,17 @@ module _ {t : Table Bytes} {s : Bytes} where
   by (bin Choice a b) (failed d (goes f)) = choice_no d f
   by (bin Choice a b) (went d here) = choice_ok d
 
--- THE INDUCTION: what holds wherever it answers what is asked for holds of every outcome
-module _ {t : Table Bytes} {s : Bytes} (Gives : E → ℕ → Res → Type 0) (step : (e : E) (p : ℕ) (r : Res) → Asked Gives t p (ask s e p) r → Gives e p r) where
+module _ {t : Table Bytes} (Gives : E → ℕ → Res → Type 0) where
   result : {p : ℕ} {q r : Res} → q ≡ r → Asked Gives t p (now (done q)) r
   result {p} {q} h = subst (Asked Gives t p (now (done q))) h (nows is)
 
+-- THE INDUCTION: what holds wherever it answers what is asked for holds of every outcome
+module _ {t : Table Bytes} {s : Bytes} (Gives : E → ℕ → Res → Type 0) (step : (e : E) (p : ℕ) (r : Res) → Asked Gives t p (ask s e p) r → Gives e p r) where
   pub each_outcome : {e : E} {p : ℕ} {r : Res} → Out t s e p r → Gives e p r
-  each_outcome (str h) = step _ _ _ (result h)
-  each_outcome (insens h) = step _ _ _ (result h)
-  each_outcome (range h) = step _ _ _ (result h)
-  each_outcome (any a h) = step _ _ _ (rw a (result h))
+  each_outcome (str h) = step _ _ _ (result Gives h)
+  each_outcome (insens h) = step _ _ _ (result Gives h)
+  each_outcome (range h) = step _ _ _ (result Gives h)
+  each_outcome (any a h) = step _ _ _ (rw a (result Gives h))
   each_outcome (call a l d) = step _ _ _ (rw a (rules l (each_outcome d)))
   each_outcome (pos_ok d) = step _ _ _ (went (each_outcome d) is)
   each_outcome (pos_no d) = step _ _ _ (failed (each_outcome d) is)
@@ -130,7 +137,7 @@ module _ {t : Table Bytes} {s : Bytes} (Gives : E → ℕ → Res → Type 0) (s
   each_outcome (rep_end d) = step _ _ _ (failed (each_outcome d) is)
   each_outcome (count_go d f) = step _ _ _ (went (each_outcome d) (on (each_outcome f)))
   each_outcome (count_end d h) = step _ _ _ (failed (each_outcome d) (subst (Follows Gives _ (done _)) h is))
-  each_outcome (count_max h) = step _ _ _ (result h)
+  each_outcome (count_max h) = step _ _ _ (result Gives h)
   each_outcome (exact d) = step _ _ _ (nows (goes (each_outcome d)))
   each_outcome (at_most d) = step _ _ _ (nows (goes (each_outcome d)))
   each_outcome (min_go d f) = step _ _ _ (went (each_outcome d) (on (each_outcome f)))

@@ -73,6 +73,7 @@ module _ {t : Table Bytes} {s : Bytes} {e : E} where
   may_from : {b p : ℕ} {r : Res} → Out t s (bin Seq (un Opt e) (un (RepMinMax 0 b) e)) p r → Out t s (un (RepMinMax 0 (suc b)) e) p r
   may_from (seq_go (opt_ok d) f) = count_go d f
   may_from {b} (seq_go (opt_no d) f) = count_end d (det (no_more b d) f)
+  may_from (seq_no h) = elim h [ ]
 
   may : {b : ℕ} → Same t s (un (RepMinMax 0 (suc b)) e) (bin Seq (un Opt e) (un (RepMinMax 0 b) e))
   may = record { to = may_to; from = may_from }

@@ -114,7 +114,7 @@ record Node (w : List ℕ) (j k : ℕ) (us : List Un) : Type 0 where
 node_at : {w : List ℕ} {i : ℕ} (us : List Un) (r : Expr Span) → At w i (wrap us r) → (k j : ℕ) → k < length us → j + k ≡ i → Node w j k us
 node_at [] r a k j h e = absurd (omega arith)
 node_at {w} (u ∷ us) r a zero j h e = record { op = u; child = wrap us r; split = refl; at = subst (λ (n : ℕ). At w n (un u (wrap us r))) (omega arith) a }
-node_at (u ∷ us) r a (suc k) j h e = let n = node_at us r (at_un a) k j (omega arith) (omega arith) in record { op = n.op; child = n.child; split = n.split; at = n.at }
+node_at {i = i} (u ∷ us) r a (suc k) j h e = let n = node_at {i = i - 1} us r (at_un a) k j (omega arith) (omega arith) in record { op = n.op; child = n.child; split = n.split; at = n.at }
 
 drop_all : (us : List Un) → drop (length us) us ≡ []
 drop_all [] = refl

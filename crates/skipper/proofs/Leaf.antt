@@ -1,5 +1,5 @@
 -- A reading of rows, arm by arm: a leaf, a rule, a Choice. Assumes nothing.
-use mathlib.Core.Path.{◌≡◌, refl, sym, ap, ◌∙◌}
+use mathlib.Core.Path.{◌≡◌, refl, sym, ap, subst, ◌∙◌}
 use mathlib.Core.List.{List, [], ◌∷◌}
 use mathlib.Core.Option.{none, some}
 use Prim.Native.Nat.{ℕ, suc, ◌+◌, ◌-◌, ◌*◌, ◌/◌, ◌≤◌, ◌<◌}
@@ -10,14 +10,14 @@ use Rattle.grammar.specs.Basic.{Bytes}
 use Rattle.grammar.specs.Tree.{Str, Insens, Ident, Seq, Choice, E, Expr, lit, fixed, skip, un, bin, size}
 use Rattle.grammar.specs.Rows.{Span}
 use Rattle.grammar.specs.Text.{bytes_at, resolve}
-use Rattle.grammar.specs.Table.{Table, rule_words, resolve_table, find}
+use Rattle.grammar.specs.Table.{Table, rule_words, row_words, resolve_table, find}
 use Rattle.grammar.proofs.Logic.{some_eq}
 use Rattle.grammar.specs.Lists.{Reading, nothing, strings, and_then, read_left, read_in}
 use Rattle.rows.specs.Rows.{At, kind_at, x_at, y_at, size_at}
 use Rattle.rows.proofs.Laws.{Found, root, size_pos}
 use Rattle.rows.proofs.Cells.{lit_shape, bin_shape}
 use Rattle.rows.proofs.Views.{TwoView, as_lit, as_two, lit_is, two_is}
-use Rattle.names.specs.Names.{Ended, First, Finds, memory_word, end_word}
+use Rattle.names.specs.Names.{rows_before, Ended, First, Finds, memory_word, end_word}
 use Rattle.names.specs.declared.Found.{Found as Found'}
 use Rattle.names.specs.declared.Found.TheVariants.{At as Sited, Nothing}
 use Rattle.names.proofs.Index.{index_kept}
@@ -171,7 +171,7 @@ module _ {rules : List ℕ} (t : Table Span) (heads : rules ≡ rule_words t) wh
 -- rule k
 module _ {rules rows : List ℕ} {t : Table Span} (lent : Lent rules rows t) where
   pub rule_stands : {m : List ℕ} (k : ℕ) (r : There t k) → k < length rules / rule_width → Ended rules m → At rows (get_or m (k * mark_width + end_word) 0 - 1) r.rule.body
-  rule_stands k r h d = rw (lent.trees, d.end k h, lent.heads) (body_at t k r.rule r.is)
+  rule_stands k r h d = rw (lent.trees, d.end k h) (subst (λ (v : List ℕ). At (row_words t) (rows_before v (suc k) - 1) r.rule.body) (sym lent.heads) (body_at t k r.rule r.is))
 
   pub rule_before : {m : List ℕ} (k : ℕ) (r : There t k) → k < length rules / rule_width → Ended rules m → (end : ℕ) → end ≡ get_or m (k * mark_width + end_word) 0 → At rows (end - 1) r.rule.body
   rule_before k r h d end e = rw e (rule_stands k r h d)

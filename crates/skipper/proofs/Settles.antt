@@ -120,7 +120,7 @@ module _ (s : Bytes) (look : Bytes → Reading) {w : List ℕ} where
   rows_none {i} (un u e) a h =
       let b = (root (at_un a)).least in
       let c = (root a).most in
-      ap₂ ◌||◌ (h i (un u e) (omega arith) (omega arith) a) (rows_none e (at_un a) (λ j q l n z. h j q (omega arith) (omega arith) z))
+      ap₂ ◌||◌ (h i (un u e) (omega arith) (omega arith) a) (rows_none {i = i - 1} e (at_un a) (λ j q l n z. h j q (omega arith) (omega arith) z))
   rows_none {i} (bin b l r) a h =
       let x = (root (at_left_lem a)).least in
       let y = (root (at_right_lem a)).least in
@@ -143,7 +143,7 @@ lit_closed look s p b z = absurd (false≢true z)
 
 strs_within : (s : Bytes) {w : List ℕ} {i j : ℕ} (r : Expr Span) (ss : List Span) → AtStrs w i ss → i ≤ j → j < i + length ss → Within s w j r
 strs_within s r [] a h l = absurd (omega arith)
-strs_within s {w} {i} {j} r (p ∷ ss) a h l = go (dec_le j i) (λ z. strs_within s r ss (at_others a) z (omega arith))
+strs_within s {w} {i} {j} r (p ∷ ss) a h l = go (dec_le j i) (λ z. strs_within s {i = i + 1} r ss (at_others a) z (omega arith))
   where
     go : Dec (j ≤ i) → (i + 1 ≤ j → Within s w j r) → Within s w j r
     go (yes e) f = let q : j ≡ i = omega arith in record { tree = lit Str p; at = rw q (at_first a); up = λ look z. lit_closed look s p (any_node (open_at look) (resolve s r)) z }
@@ -158,7 +158,7 @@ row_within s {w} {i} {j} (skip ss) a h l = go (dec_le i j)
     go (yes e) = let q : j ≡ i = omega arith in record { tree = skip ss; at = rw q a; up = λ look z. z }
     go (no n) = strs_within s (skip ss) ss (at_strs a) (omega arith) (omega (arith, (root a).most))
 row_within s {w} {i} {j} (un u e) a h l =
-    go (dec_le i j) (λ n. let b = (root (at_un a)).least in row_within s e (at_un a) (omega (arith, (root a).most)) (omega arith))
+    go (dec_le i j) (λ n. let b = (root (at_un a)).least in row_within s {i = i - 1} e (at_un a) (omega (arith, (root a).most)) (omega arith))
   where
     go : Dec (i ≤ j) → (j < i → Within s w j e) → Within s w j (un u e)
     go (yes e') f = let q : j ≡ i = omega arith in record { tree = un u e; at = rw q a; up = λ look z. or_left (open_at look (resolve s (un u e))) (any_node (open_at look) (resolve s e)) z }
