@@ -1,4 +1,6 @@
 // What a call can be refused for before the first step runs: 1 to 7, and 8 of the input.
+#![tactic(auto)]
+
 ghost use Rattle.std.specs.Prelude.{◌≡◌, false, ◌||◌, ◌≤◌, length, ltb};
 ghost use Rattle.grammar.specs.Refusals.{full_marks};
 ghost use Rattle.refusals.specs.Check.{lent, Passed};

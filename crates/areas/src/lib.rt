@@ -1,5 +1,7 @@
 // Areas for the programs to lend: 16 elements above full size each, so that any size that is asked for is a part of them. And the
 // call with them.
+#![tactic(auto)]
+
 ghost use Rattle.std.specs.Prelude.{◌≡◌, ◌≤◌, length};
 ghost use Rattle.io.specs.Counts.{IsPrefixLen};
 

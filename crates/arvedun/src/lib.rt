@@ -1,5 +1,7 @@
 // The calls for hosts in C and Rust: include/arvedun.h says what they owe, rust/arvedun.rs is a safe wrapper. The whole call stands here, each
 // tool in a file of its own.
+#![tactic(auto)]
+
 mod compare;
 mod explain;
 

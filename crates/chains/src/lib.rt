@@ -1,4 +1,6 @@
 // Right-nested chains: the rows that close one. Runs of nodes with one child each: where one ends, and its rows over another tree.
+#![tactic(auto)]
+
 ghost use Rattle.std.specs.Prelude.{◌≡◌, List, ℕ, ◌+◌, ◌/◌, length};
 ghost use Rattle.grammar.specs.Numbers.{k_pair};
 ghost use Rattle.grammar.specs.Tree.{Bin, bin_kind, Expr};

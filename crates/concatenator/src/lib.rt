@@ -1,4 +1,6 @@
 // Concatenate: a Seq of two Str, or of two Insens, is one; bottom-up, in Atomic rules alone.
+#![tactic(auto)]
+
 ghost use Rattle.std.specs.Prelude.{◌≡◌, false, ◌-◌, length};
 ghost use Rattle.grammar.specs.Numbers.{k_seq};
 ghost use Rattle.grammar.specs.Basic.{Bytes};

@@ -1,4 +1,6 @@
 // Why a loop stays a loop: step 2's reading of its list, with the place at which it ends.
+#![tactic(auto)]
+
 ghost use Rattle.std.specs.Prelude.{◌≡◌, true, cond, ◌||◌, [], ℕ, suc, ◌+◌, ◌-◌, ◌*◌, ◌/◌, ◌^◌, ◌≤◌, ◌<◌, eqb, ltb, length, set};
 ghost use Rattle.std.proofs.Math.Option.{some};
 ghost use Rattle.grammar.specs.Numbers.{rule_width, row_width, mark_width, k_ident, k_rep};

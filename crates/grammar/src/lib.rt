@@ -1,4 +1,5 @@
 // The numbers of document 01, for code; specs/Numbers.antt has them for definitions.
+#![tactic(auto)]
 
 // A rule is so many words: where its name begins in the text, the name's length, its type, its number of rows.
 pub const RULE_WIDTH: usize = 4;

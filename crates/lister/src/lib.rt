@@ -1,4 +1,6 @@
 // List, over a whole subtree: (a~b)* ~ a becomes a ~ (b~a)*.
+#![tactic(auto)]
+
 ghost use Rattle.std.specs.Prelude.{◌≡◌, false, ◌+◌, ◌-◌, ◌*◌, ◌^◌, ◌≤◌, ◌<◌, length, take, drop};
 ghost use Rattle.std.proofs.Math.Option.{none};
 ghost use Rattle.grammar.specs.Numbers.{k_seq};

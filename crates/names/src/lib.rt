@@ -1,6 +1,8 @@
 // Finding rules by name, by an index in the marks.
 // The index has a tree for each bucket of names. A search goes down its tree, a byte of the name at each node, and compares one name at the end:
 // it costs what that name is long, whatever the other names are. Where things stand in the index: specs/Names.antt.
+#![tactic(auto)]
+
 ghost use Rattle.std.specs.Prelude.{◌≡◌, cond, ℕ, ◌+◌, ◌-◌, ◌*◌, ◌/◌, ◌%◌, ◌^◌, ◌≤◌, ◌<◌, eqb, length};
 ghost use Rattle.grammar.specs.Numbers.{rule_width, mark_width};
 ghost use Rattle.grammar.specs.Basic.{same_bytes, member};

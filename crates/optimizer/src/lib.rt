@@ -1,4 +1,6 @@
 // The whole call.
+#![tactic(auto)]
+
 ghost use Rattle.std.specs.Prelude.{◌≡◌, [], ◌∷◌, ◌/◌};
 ghost use Rattle.grammar.specs.Numbers.{rule_width};
 ghost use Rattle.grammar.specs.Rows.{Span};

@@ -1,4 +1,6 @@
 // A table's packed text, measured before the first step, and the last table, copied out.
+#![tactic(auto)]
+
 ghost use Rattle.std.specs.Prelude.{◌≡◌, ◌*◌, ◌^◌, ◌≤◌, ◌<◌, length, take};
 ghost use Rattle.grammar.specs.Refusals.{full_rules, full_rows};
 ghost use Rattle.grammar.specs.Numbers.{row_width};

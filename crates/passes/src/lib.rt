@@ -1,4 +1,6 @@
 // One pass over the rules of a table, for every step.
+#![tactic(auto)]
+
 ghost use Rattle.std.specs.Prelude.{◌≡◌, true, false, ℕ, ◌+◌, ◌*◌, ◌/◌, ◌^◌, ◌≤◌, ◌<◌, length, get_or};
 ghost use Rattle.grammar.specs.Numbers.{rule_width, length_word, type_word};
 ghost use Rattle.grammar.specs.Basic.{Bytes};

@@ -1,4 +1,6 @@
 // Refusals 2 to 6 of a lent table: the lowest that holds, for any words and any text.
+#![tactic(auto)]
+
 ghost use Rattle.std.specs.Prelude.{◌≡◌, false, ◌||◌, ℕ, ◌+◌, ◌-◌, ◌*◌, ◌/◌, ◌%◌, ◌^◌, ◌≤◌, ◌<◌, length, take, drop, get_or, eqb};
 ghost use Rattle.grammar.specs.Numbers.{rule_width, row_width, mark_width, k_str, k_restore_on_err};
 ghost use Rattle.grammar.specs.Basic.{member};

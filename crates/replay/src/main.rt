@@ -16,6 +16,8 @@
 // so many words of the list as are opened, and the byte, which speaks of the list. `short` counts the list and the marks, 1 and 2.
 //
 // A case that is cut off ends the run, and so does one with more than 1,040 rule words, 16,400 row words or 65,600 bytes of text.
+#![tactic(auto)]
+
 mod compare;
 mod explain;
 mod input;

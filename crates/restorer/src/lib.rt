@@ -1,4 +1,6 @@
 // Restore: whether the stack can change through each rule of a table, and step 7 on a subtree. A rule's memory is word 1 of its mark: 0 not seen, 2 the stack cannot change through it, 3 it can, OPEN + p it is open, at position p of the stack of open rules.
+#![tactic(auto)]
+
 ghost use Rattle.std.specs.Prelude.{◌≡◌, true, false, ◌||◌, ℕ, ◌+◌, ◌-◌, ◌*◌, ◌/◌, ◌^◌, ◌≤◌, ◌<◌, length, set};
 ghost use Rattle.grammar.specs.Numbers.{rule_width, row_width, mark_width, k_ident};
 ghost use Rattle.grammar.specs.Tree.{Expr, size};

@@ -1,4 +1,6 @@
 // Rotate: chains of Seq, and of Choice, nest to the right.
+#![tactic(auto)]
+
 ghost use Rattle.std.specs.Prelude.{◌≡◌, false, ◌/◌, length};
 ghost use Rattle.grammar.specs.Numbers.{k_pair};
 ghost use Rattle.grammar.specs.Basic.{Bytes};

@@ -1,4 +1,6 @@
 // Reading and comparing postfix rows of four words.
+#![tactic(auto)]
+
 ghost use Rattle.std.specs.Prelude.{◌≡◌, true, ℕ, ◌+◌, ◌-◌, ◌≤◌, ◌<◌, ◌/◌, length, get_or};
 ghost use Rattle.grammar.specs.Numbers.{row_width, k_pair};
 ghost use Rattle.grammar.specs.Tree.{Expr};

@@ -1,5 +1,7 @@
 // Prints document 01's worked examples W1 to W12: each table before and after the call, why its loops stay loops, the report, and
 // what changed in each rule.
+#![tactic(auto)]
+
 mod compare;
 mod explain;
 mod print;

@@ -1,4 +1,6 @@
 // The seven steps in their order, from one work table to the other.
+#![tactic(auto)]
+
 ghost use Rattle.std.specs.Prelude.{◌≡◌, Bool, ◌||◌, ℕ, ◌*◌, length};
 ghost use Rattle.grammar.specs.Numbers.{rule_width};
 ghost use Rattle.grammar.specs.Basic.{Bytes};

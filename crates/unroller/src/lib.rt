@@ -1,4 +1,6 @@
 // Unroll: a counted repeat becomes its items, nested to the right.
+#![tactic(auto)]
+
 ghost use Rattle.std.specs.Prelude.{◌≡◌, List, ◌∷◌, ℕ, ◌+◌, ◌-◌, ◌*◌, ◌/◌, ◌^◌, ◌≤◌, ◌<◌, length, replicate};
 ghost use Rattle.grammar.specs.Numbers.{row_width};
 ghost use Rattle.grammar.specs.Tree.{Un, un_head, Expr, E};

@@ -1,4 +1,6 @@
 // Writing rows and text at a place of two lent areas: a row, a literal, the packed copy of a subtree.
+#![tactic(auto)]
+
 ghost use Rattle.std.specs.Prelude.{◌≡◌, List, map, ◌++◌, ℕ, ◌+◌, ◌*◌, ◌/◌, ◌^◌, ◌≤◌, ◌<◌, length, set};
 ghost use Rattle.grammar.specs.Numbers.{row_width};
 ghost use Rattle.grammar.specs.Tree.{Expr};
