@@ -126,27 +126,27 @@ module _ (t : Table Bytes) (o : List ℕ) (d : ℕ) (h : d ≤ length t) (x : By
 
 module _ (s : Bytes) (t : Table Span) (n d : ℕ) {m l : List ℕ} {w : List ℕ} {j k x y c : ℕ} (f : Found w j k x y c) (i : ℕ) {r : Expr Span} (at : At w j r) where
   pub arm_str : {a : Told} → Clean n m → k ≡ 0 → Numbered a 0 0 0 0 0 → ReadSo s t n d m m l l a (λ look. read_left look (resolve s r)) (λ look. ends_left look i j (resolve s r))
-  arm_str clean z h = record { steady = steady_none n m; clean = λ _. clean; reads' = λ _. leaf.leaf_str s f at z; says = λ o names known within. says_by (ends_str f s _ i at z) (says_reads h) }
+  arm_str clean z h = record { steady = steady_none n m; clean = λ _. clean; reads' = λ _. leaf.leaf_str s f at z; says = λ o names known within. says_by (ends_str f s (ends_name (suc (length (resolve_table s t)) - d) (resolve_table s t) o) i at z) (says_reads h) }
 
   pub arm_other : {a : Told} → (k ≡ 0 → ⊥) → (k ≡ 3 → ⊥) → Numbered a 8 i j 0 0 → ReadSo s t n d m m l l a (λ look. read_left look (resolve s r)) (λ look. ends_left look i j (resolve s r))
-  arm_other z q h = record { steady = steady_none n m; clean = λ e. absurd (omega (arith, h.0, e)); reads' = λ e. absurd (omega (arith, h.0, e)); says = λ o names known within. says_by (ends_other f s _ i r at z q) (says_other h) }
+  arm_other z q h = record { steady = steady_none n m; clean = λ e. absurd (omega (arith, h.0, e)); reads' = λ e. absurd (omega (arith, h.0, e)); says = λ o names known within. says_by (ends_other f s (ends_name (suc (length (resolve_table s t)) - d) (resolve_table s t) o) i r at z q) (says_other h) }
 
   pub arm_ident : {a : Told} {m' l' : List ℕ} → k ≡ 3 → ReadSo s t n d m m' l l' a (λ look. look (bytes_at s (x, y))) (λ look. look i j (bytes_at s (x, y))) → ReadSo s t n d m m' l l' a (λ look. read_left look (resolve s r)) (λ look. ends_left look i j (resolve s r))
-  arm_ident z h = record { steady = h.steady; clean = h.clean; reads' = λ e. leaf.leaf_ident s f at z (h.reads' e); says = λ o names known within. says_by (ends_ident f s _ i at z) (h.says o names known within) }
+  arm_ident z h = record { steady = h.steady; clean = h.clean; reads' = λ e. leaf.leaf_ident s f at z (h.reads' e); says = λ o names known within. says_by (ends_ident f s (ends_name (suc (length (resolve_table s t)) - d) (resolve_table s t) o) i at z) (h.says o names known within) }
 
   -- an expression that is no Choice
   pub arm_leaf : {a : Told} {m' l' : List ℕ} → (k ≡ 9 → ⊥) → ReadSo s t n d m m' l l' a (λ look. read_left look (resolve s r)) (λ look. ends_left look i j (resolve s r)) → ReadSo s t n d m m' l l' a (λ look. read_in look (resolve s r)) (λ look. ends_in look i j (resolve s r))
-  arm_leaf z h = record { steady = h.steady; clean = h.clean; reads' = λ e. leaf.in_leaf s f at z (h.reads' e); says = λ o names known within. says_by (ends_leaf f s _ i r at z) (h.says o names known within) }
+  arm_leaf z h = record { steady = h.steady; clean = h.clean; reads' = λ e. leaf.in_leaf s f at z (h.reads' e); says = λ o names known within. says_by (ends_leaf f s (ends_name (suc (length (resolve_table s t)) - d) (resolve_table s t) o) i r at z) (h.says o names known within) }
 
   -- a Choice whose left side ends the reading
   pub arm_stop : {a : Told} {m₁ l₁ : List ℕ} {b : ℕ} → k ≡ 9 → b ≡ j - 1 - size_at w (j - 1) → (a.answer ≡ 0 → ⊥) → ((q : Expr Span) → At w b q → ReadSo s t n d m m₁ l l₁ a (λ look. read_left look (resolve s q)) (λ look. ends_left look i b (resolve s q))) → ReadSo s t n d m m₁ l l₁ a (λ look. read_in look (resolve s r)) (λ look. ends_in look i j (resolve s r))
-  arm_stop z e unlike p =
+  arm_stop {b = b} z e unlike p =
       let h = p (leaf.choice_view f at z).left (leaf.choice_left f at z e) in
       record {
         steady = h.steady;
         clean = h.clean;
         reads' = λ q. absurd (unlike q);
-        says = λ o names known within. let g = h.says o names known within in says_by (ends_choice f s _ i at z e ∙ stops _ _ (λ q. unlike (g.answer ∙ q))) g;
+        says = λ o names known within. let g = h.says o names known within in let look : Look = ends_name (suc (length (resolve_table s t)) - d) (resolve_table s t) o in says_by (ends_choice f s look i at z e ∙ stops (ends_left look i b (resolve s (leaf.choice_view f at z).left)) (ends_in look i (j - 1) (resolve s (leaf.choice_view f at z).right)) (λ q. unlike (g.answer ∙ q))) g;
       }
     where
       stops : (u v : Ends) → ((ends_told u []).answer ≡ 0 → ⊥) → first u v ≡ u

@@ -1,5 +1,5 @@
 -- A row of a table, by its number: the rule that has it, and the tree that stands there. Assumes nothing.
-use mathlib.Core.Path.{◌≡◌, refl, sym, ap, ◌∙◌}
+use mathlib.Core.Path.{◌≡◌, subst, refl, sym, ap, ◌∙◌}
 use mathlib.Core.Bool.{cond}
 use mathlib.Core.List.{List, [], ◌∷◌, map}
 use mathlib.Core.Option.{none, some}
@@ -45,7 +45,7 @@ module _ (s : Bytes) {w : List ℕ} where
   strs_are : {i : ℕ} (ss : List Span) → AtStrs w i ss → (j k : ℕ) → i + k ≡ j → k < length ss → (q : Expr Span) → At w j q → lit Str (get_or (map (bytes_at s) ss) k []) ≡ resolve s q
   strs_are [] a j k e h q b = absurd (omega arith)
   strs_are (p ∷ ss) a j zero e h q b = root_is (lit Str p) q (at_first a) j (omega arith) b
-  strs_are (p ∷ ss) a j (suc k) e h q b = strs_are ss (at_others a) j k (omega arith) (omega arith) q b
+  strs_are {i = i} (p ∷ ss) a j (suc k) e h q b = strs_are {i = i + 1} ss (at_others a) j k (omega arith) (omega arith) q b
 
   -- row j is row k of the tree
   node_there : {i : ℕ} (r : Expr Span) → At w i r → (j k : ℕ) → k + i + 1 ≡ j + size r → j ≤ i → (q : Expr Span) → At w j q → node_at (resolve s r) k ≡ some (resolve s q)
@@ -61,7 +61,7 @@ module _ (s : Bytes) {w : List ℕ} where
           if_past k (length (map (bytes_at s) ss)) _ _ (omega (arith, long))
           (if_same k (length (map (bytes_at s) ss)) _ _ (omega (arith, long)) (ap some (root_is (skip ss) q a j (omega arith) b)))
       go (no z) = if_less k (length (map (bytes_at s) ss)) _ _ (omega (arith, long)) (ap some (strs_are ss (at_strs a) j k (omega (arith, (root a).most)) (omega arith) q b))
-  node_there {i} (un u e) a j k h n q b = go (dec_le i j) (λ z. node_there e (at_un a) j k (omega arith) (omega arith) q b)
+  node_there {i} (un u e) a j k h n q b = go (dec_le i j) (λ z. node_there {i = i - 1} e (at_un a) j k (omega arith) (omega arith) q b)
     where
       long : size (resolve s e) ≡ size e
       long = size_resolve s e
@@ -146,7 +146,7 @@ module _ (s : Bytes) where
     -- THE NODE OF A TABLE'S ROW: its rule, and what stands there
     pub node_in : (k : ℕ) (r : Rule Span) → get_elem? t k ≡ some r → (j : ℕ) → rows_before rules k ≤ j → j < rows_before rules (suc k) → (q : Expr Span) → At rows j q
         → node_from 0 (resolve_table s t) j ≡ some (record { rule = k; type = r.type; tree = resolve s q })
-    node_in k r h j n m q a = node_of t k r h j (rw l.heads at n) (rw l.heads at m) q (rw l.trees at a)
+    node_in k r h j n m q a = node_of t k r h j (rw l.heads at n) (subst (λ (v : List ℕ). j < rows_before v (suc k)) l.heads m) q (rw l.trees at a)
 
     -- and past the table there is none
     pub node_past : (j : ℕ) → rows_before rules (length rules / rule_width) ≤ j → node_from 0 (resolve_table s t) j ≡ none

@@ -59,7 +59,7 @@ place_first i from (q ∷ t) s x (suc k) r h e n =
 module _ {rules : List ℕ} (t : Table Span) (heads : rules ≡ rule_words t) (s x : Bytes) where
   pub place_at : {k : ℕ} → First (length rules / rule_width) rules s x k → (r : There t k) → place_from 0 0 (resolve_table s t) x ≡ some (record { rule = k; root = rows_before rules (suc k) - 1; body = resolve s r.rule.body })
   place_at {k} f r =
-      rw heads
+      subst (λ (v : List ℕ). place_from 0 0 (resolve_table s t) x ≡ some (record { rule = k; root = rows_before v (suc k) - 1; body = resolve s r.rule.body })) (sym heads)
       (place_first 0 0 t s x k r.rule r.is (rw (← heads) f.same) (λ j h q. f.first j h (rw heads q))
       ∙ ap₂ (λ (a b : ℕ). some (record { rule = a; root = b; body = resolve s r.rule.body })) (omega arith) (omega arith))
 

@@ -65,7 +65,7 @@ module _ (t : Bytes) {w : List ℕ} where
   rows_flat {i} (un u e) a h =
       let b = (root (at_un a)).least in
       let c = (root a).most in
-      ap₂ ◌||◌ (h i (un u e) (omega arith) (omega arith) a) (rows_flat e (at_un a) (λ j q l n z. h j q (omega arith) (omega arith) z))
+      ap₂ ◌||◌ (h i (un u e) (omega arith) (omega arith) a) (rows_flat {i = i - 1} e (at_un a) (λ j q l n z. h j q (omega arith) (omega arith) z))
   rows_flat {i} (bin b l r) a h =
       let x = (root (at_left_lem a)).least in
       let y = (root (at_right_lem a)).least in
@@ -80,7 +80,7 @@ module _ (t : Bytes) {w : List ℕ} where
   -- the row of a string does not nest
   strs_flat : {k : ℕ} (ss : List Span) → AtStrs w k ss → (j : ℕ) → k ≤ j → j < k + length ss → (q : Expr Span) → At w j q → nests_at (resolve t q) ≡ true → ⊥
   strs_flat [] a j l h q b n = omega arith
-  strs_flat {k} (s ∷ ss) a j l h q b n = go (dec_le j k) (λ z. strs_flat ss (at_others a) j z (omega arith) q b n)
+  strs_flat {k} (s ∷ ss) a j l h q b n = go (dec_le j k) (λ z. strs_flat {k = k + 1} ss (at_others a) j z (omega arith) q b n)
     where
       go : Dec (j ≤ k) → (k + 1 ≤ j → ⊥) → ⊥
       go (yes e) f = false≢true (root_nests (lit Str s) q (at_first a) j (omega arith) b n)
@@ -96,7 +96,7 @@ module _ (t : Bytes) {w : List ℕ} where
       go (yes e) = root_nests (skip ss) q a j (omega arith) b n
       go (no e) = absurd (strs_flat ss (at_strs a) j (omega (arith, (root a).most)) (omega (arith, (root a).most)) q b n)
   row_nests {i} (un u e) a j h l q b n =
-      go (dec_le i j) (λ z. row_nests e (at_un a) j (omega (arith, (root a).most)) (omega arith) q b n)
+      go (dec_le i j) (λ z. row_nests {i = i - 1} e (at_un a) j (omega (arith, (root a).most)) (omega arith) q b n)
     where
       go : Dec (i ≤ j) → (j < i → any_node nests_at (resolve t e) ≡ true) → any_node nests_at (resolve t (un u e)) ≡ true
       go (yes z) f = or_left _ _ (root_nests (un u e) q a j (omega arith) b n)

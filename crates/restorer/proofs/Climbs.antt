@@ -81,8 +81,8 @@ under (lit x s) a h (suc k) j b e = absurd (omega arith)
 under (fixed f) a h (suc k) j b e = absurd (omega arith)
 under (skip ss) a h (suc k) j b e = absurd (omega arith)
 under (bin c l r) a h (suc k) j b e = absurd (omega arith)
-under (un u r) a h (suc k) j b e =
-    let n = under r (at_un a) (omega arith) k j b (omega arith) in
+under {i = i} (un u r) a h (suc k) j b e =
+    let n = under {i = i - 1} r (at_un a) (omega arith) k j b (omega arith) in
     record { tree = n.tree; at = n.at; run = n.run; fits = λ t e p o l f. n.fits t e p o l (fits_guarded t _ _ (fits_un f)) }
 
 -- the rows after `base` up to row i stand

@@ -12,11 +12,11 @@ use Rattle.grammar.specs.Numbers.{rule_width, rows_word, row_width, mark_width}
 use Rattle.grammar.specs.Basic.{Bytes}
 use Rattle.grammar.specs.Tree.{size}
 use Rattle.grammar.specs.Rows.{Span}
-use Rattle.grammar.specs.Table.{Table, resolve_table}
+use Rattle.grammar.specs.Table.{Table, row_words, resolve_table}
 use Rattle.grammar.proofs.Logic.{eqb_eq}
 use Rattle.rows.specs.Rows.{At}
 use Rattle.rows.proofs.Laws.{root, size_pos}
-use Rattle.names.specs.Names.{Ended, memory_word, ways_word, end_word}
+use Rattle.names.specs.Names.{rows_before, Ended, memory_word, ways_word, end_word}
 use Rattle.names.proofs.Index.{index_kept}
 use Rattle.names.proofs.Finding.{There, there, rule_count, rule_words_lem, body_at}
 use Rattle.restorer.specs.Search.{OPEN, state_of}
@@ -222,7 +222,7 @@ module _ {rules rows : List ℕ} {t : Table Span} (lent : Lent t rules rows) whe
 
   module _ (m : List ℕ) (k : ℕ) (r : There t k) (h : k < length rules / rule_width) (d : Ended rules m) where
     pub rule_stands : At rows (get_or m (k * mark_width + end_word) 0 - 1) r.rule.body
-    rule_stands = rw (← lent.trees, d.end k h, ← lent.heads) (body_at t k r.rule r.is)
+    rule_stands = rw (← lent.trees, d.end k h) (subst (λ (v : List ℕ). At (row_words t) (rows_before v (suc k) - 1) r.rule.body) lent.heads (body_at t k r.rule r.is))
 
     -- where the rule's rows end: n is their number
     module _ (end n : ℕ) (e : end ≡ get_or m (k * mark_width + end_word) 0) (q : n ≡ get_or rules (k * rule_width + rows_word) 0) where

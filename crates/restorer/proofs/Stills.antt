@@ -85,7 +85,7 @@ module _ (t : Table Bytes) where
         let c = root a in
         let m : 1 ≤ size e = size_pos e in
         changes_un t u (resolve s e)
-        ∙ ap (shows_through (un_head u).0) (changes_still e (at_un a) (λ j p q. h j (omega (arith, c.most)) (omega (arith, c.most))))
+        ∙ ap (shows_through (un_head u).0) (changes_still {i = i - 1} e (at_un a) (λ j p q. h j (omega (arith, c.most)) (omega (arith, c.most))))
         ∙ shows_still u (λ k. (h i (omega arith) (omega arith)).push (c.kind ∙ k))
     changes_still (bin b l r) a h =
         let c = root a in
@@ -104,7 +104,7 @@ module _ (t : Table Bytes) where
         let m : 1 ≤ size e = size_pos e in
         let g : AllStill (i - 1) (size e) = λ j p q. h j (omega (arith, c.most)) (omega (arith, c.most)) in
         restore_un t u (resolve s e)
-        ∙ ap (λ (x : E). un u (guarded_if t (is_guard (un_head u).0) x)) (restore_still e (at_un a) g)
+        ∙ ap (λ (x : E). un u (guarded_if t (is_guard (un_head u).0) x)) (restore_still {i = i - 1} e (at_un a) g)
         ∙ ap (un u) (guarded_still (is_guard (un_head u).0) (resolve s e) (changes_still e (at_un a) g))
     restore_still {i} (bin b l r) a h =
         let c = root a in

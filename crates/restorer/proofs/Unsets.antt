@@ -54,7 +54,7 @@ module _ (t : Table Bytes) (s : Bytes) (w : List ℕ) where
       let g : Unset w (i - 1) (size e) = λ j p q. n j (omega (arith, c.most)) (omega (arith, c.most)) in
       let k : changes t (resolve s e) ≡ false = below_un u _ (λ z. n i (omega arith) (omega arith) (c.kind ∙ z)) (sym (changes_un t u (resolve s e)) ∙ h) in
       restore_un t u (resolve s e)
-      ∙ ap (λ (x : E). un u (guarded_if t (is_guard (un_head u).0) x)) (restore_unset e (at_un a) g k)
+      ∙ ap (λ (x : E). un u (guarded_if t (is_guard (un_head u).0) x)) (restore_unset {i = i - 1} e (at_un a) g k)
       ∙ ap (un u) (guarded_still t (is_guard (un_head u).0) (resolve s e) k)
   restore_unset {i} (bin b l r) a n h =
       let c = root a in
