@@ -1,0 +1,25 @@
+use mathlib.Core.Path.{◌≡◌, refl, ap, ◌∙◌}
+use Prim.Native.Nat.{ℕ, ◌+◌, ◌-◌, ◌≤◌, ◌<◌}
+use native.Mathlib.Omega.{arith}
+use lib.ListN.{length, length-set}
+use Rattle.grammar.specs.Text.{bytes_at}
+use Rattle.writing.specs.Writes.{stored}
+use Rattle.writing.proofs.Runs.{copy_more}
+use borrow.Author.Rules.{rules}
+use Rattle.writing.proofs.copy_bytes.Goals as goal
+
+pub loop-i-init : goal.loop-i-init
+unfolding stored
+loop-i-init c = (omega arith, refl, refl)
+
+pub loop-i-preserved : goal.loop-i-preserved
+loop-i-preserved c = let l = c.loop-i in
+    let a = c.args in
+    let h : a.x + l.i < length a.src.now = omega arith in
+    (omega arith, simp length-set l.invariant.1, rw l.invariant.2 (copy_more _ _ _ _ _ h))
+
+pub shape_of-dst : goal.shape_of-dst
+shape_of-dst c = c.loop-i.invariant.1
+
+pub returns : goal.returns
+returns c = let e : c.loop-i.i ≡ c.args.n = omega arith in rw (← e) c.loop-i.invariant.2

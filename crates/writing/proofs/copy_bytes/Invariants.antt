@@ -1,0 +1,14 @@
+use mathlib.Core.Path.{◌≡◌, refl, ap, ◌∙◌}
+use Prim.Native.Nat.{ℕ, ◌+◌, ◌-◌, ◌≤◌, ◌<◌}
+use native.Mathlib.Omega.{arith}
+use lib.ListN.{length, length-set}
+use Rattle.grammar.specs.Text.{bytes_at}
+use Rattle.writing.specs.Writes.{stored}
+use Rattle.writing.proofs.Runs.{copy_more}
+use Rattle.writing.proofs.copy_bytes.Given as goal
+
+abbrev pub invariant-loop-i : goal.invariant-loop-i
+invariant-loop-i l = (l.i ≤ l.n) × (length l.dst ≡ length l.initial.dst) × (l.dst ≡ stored l.initial.dst l.at (bytes_at l.src (l.x, l.i)))
+
+abbrev pub decreases-loop-i : goal.decreases-loop-i
+decreases-loop-i l = l.n - l.i
