@@ -1,0 +1,8 @@
+use native.Mathlib.Omega.{arith}
+use Rattle.names.specs.Names.{halves}
+use Rattle.names.proofs.Index.{cleared}
+use borrow.Author.Rules.{rules}
+use Rattle.names.proofs.clear.Goals as goal
+
+pub returns : goal.returns
+returns c = cleared c.args.rules.now c.args.text.now c.args.marks.now (omega (arith, c.requires)) (omega (arith, c.requires)) c.halves-none.ensures c.fill.ensures c.fill-2.ensures

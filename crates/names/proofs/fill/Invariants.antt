@@ -1,0 +1,14 @@
+-- The invariant: the marks passed are written. Assumes nothing.
+use mathlib.Core.Path.{◌≡◌, refl, ap, ◌∙◌}
+use Prim.Native.Nat.{ℕ, ◌-◌, ◌≤◌}
+use native.Mathlib.Omega.{arith}
+use lib.ListN.{length, length-set}
+use Rattle.names.specs.Names.{marked}
+use Rattle.names.proofs.Marks.{marked_step}
+use Rattle.names.proofs.fill.Given as goal
+
+abbrev pub invariant-loop-i : goal.invariant-loop-i
+invariant-loop-i l = (l.i ≤ l.count) × (length l.marks ≡ length l.initial.marks) × (l.marks ≡ marked (λ _. l.v) l.j l.i l.initial.marks)
+
+abbrev pub decreases-loop-i : goal.decreases-loop-i
+decreases-loop-i l = l.count - l.i

@@ -1,0 +1,15 @@
+use mathlib.Core.Path.{◌≡◌, refl, sym, ap, subst, ◌∙◌}
+use Prim.Native.Nat.{ℕ, suc, ◌+◌, ◌-◌, ◌*◌, ◌/◌, ◌≤◌, ◌<◌}
+use native.Mathlib.Omega.{arith}
+use lib.ListN.{length, get_or}
+use Rattle.grammar.specs.Numbers.{rule_width}
+use Rattle.grammar.specs.Text.{bytes_at}
+use Rattle.names.specs.Names.{name_of, bucket_of, half_at, Way, Indexed, halves}
+use Rattle.names.proofs.Index.{steps_left, way_start, node_there, next_way, next_less}
+use Rattle.names.proofs.spot_of.Given as goal
+
+abbrev pub invariant-loop-holds : goal.invariant-loop-holds
+invariant-loop-holds l = (l.holds ≡ half_at l.marks l.slot) × ((k : ℕ) → Indexed k l.rules l.text l.marks → Way (length l.rules / rule_width) k (name_of l.rules l.text) l.marks (bytes_at l.text2 (l.x, l.n)) (bucket_of (length l.rules / rule_width) (bytes_at l.text2 (l.x, l.n)) * halves + 1) l.slot)
+
+abbrev pub decreases-loop-holds : goal.decreases-loop-holds
+decreases-loop-holds l = steps_left (length l.rules / rule_width) l.holds
