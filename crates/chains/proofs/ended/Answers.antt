@@ -1,0 +1,6 @@
+-- `ended` meets its contract, by what it requires. Assumes nothing.
+use borrow.Author.Rules.{rules}
+use Rattle.chains.proofs.ended.Goals as goal
+
+pub returns-in-Full : goal.returns-in-Full
+returns-in-Full c = absurd (c.requires c.in-Full.is)

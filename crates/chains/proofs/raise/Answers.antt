@@ -1,0 +1,55 @@
+use mathlib.Core.Path.{◌≡◌, refl, sym, ap, ◌∙◌}
+use Prim.Native.Nat.{◌+◌, ◌-◌, ◌/◌, ◌≤◌, ◌<◌}
+use native.Mathlib.Omega.{arith}
+use lib.ListN.{length}
+use Rattle.grammar.specs.Numbers.{row_width}
+use Rattle.rows.proofs.Laws.{Found, row_found, row_there, root}
+use Rattle.chains.proofs.Runs.{Up, up_none, up_more, up_all}
+use Rattle.chains.proofs.raise.Reads as reads
+use Rattle.rows.proofs.row_at.Reads as row-at-reads
+use Rattle.writing.proofs.set_row.Reads as set-row-reads
+use borrow.Author.Rules.{rules}
+use Rattle.chains.proofs.raise.Goals as goal
+
+pub loop-i-init : goal.loop-i-init
+loop-i-init c = up_none (omega (arith, c.requires.run))
+
+pub shape_of-out-in_default : goal.shape_of-out-in_default
+shape_of-out-in_default c = c.loop-i.invariant.same
+
+pub returns-in_default : goal.returns-in_default
+returns-in_default c = absurd (row_there _ _ (omega (arith, (root c.requires.at).inside, c.loop-i-test.true)) (sym c.row_at.ensures ∙ c.in_default.is))
+
+pub overflow_add-at : goal.overflow_add-at
+overflow_add-at c = let room : c.loop-i.at < length c.args.out.now / row_width = let u = c.loop-i.invariant in omega (arith, c.requires.run, c.requires.room, u.end, c.loop-i-test.true) in
+    omega (arith, room, c.requires.words)
+
+pub overflow_sub-at : goal.overflow_sub-at
+overflow_sub-at c = let u = c.loop-i.invariant in omega (arith, u.low, u.end, c.requires.order)
+
+pub overflow_cast-at : goal.overflow_cast-at
+overflow_cast-at c = let room : c.loop-i.at < length c.args.out.now / row_width = let u = c.loop-i.invariant in omega (arith, c.requires.run, c.requires.room, u.end, c.loop-i-test.true) in
+    omega (arith, room, c.requires.words)
+
+pub set_row-requires : goal.set_row-requires
+set_row-requires c = let room : c.loop-i.at < length c.args.out.now / row_width = let u = c.loop-i.invariant in omega (arith, c.requires.run, c.requires.room, u.end, c.loop-i-test.true) in
+    omega (arith, room, c.loop-i.invariant.same)
+
+pub overflow_add-at-in-loop-i : goal.overflow_add-at-in-loop-i
+overflow_add-at-in-loop-i c = let room : c.loop-i.at < length c.args.out.now / row_width = let u = c.loop-i.invariant in omega (arith, c.requires.run, c.requires.room, u.end, c.loop-i-test.true) in
+    omega (arith, room, c.requires.words)
+
+pub loop-i-smaller : goal.loop-i-smaller
+loop-i-smaller c = omega (arith, c.loop-i-test.true)
+
+pub loop-i-preserved : goal.loop-i-preserved
+loop-i-preserved c = let read : Found c.args.rows.now (c.loop-i.i + 1) c.in-Row.kind c.in-Row.x c.in-Row.y c.in-Row.size = row_found (sym c.row_at.ensures ∙ c.in-Row.is) in
+    let room : c.loop-i.at < length c.args.out.now / row_width = let u = c.loop-i.invariant in omega (arith, c.requires.run, c.requires.room, u.end, c.loop-i-test.true) in
+    let u = c.loop-i.invariant in
+    up_more u c.loop-i-test.true read (omega (arith, room, u.same)) (omega (arith, u.low, u.end, c.requires.order)) c.set_row.ensures
+
+pub shape_of-out : goal.shape_of-out
+shape_of-out c = c.loop-i.invariant.same
+
+pub returns : goal.returns
+returns c = let u = c.loop-i.invariant in λ r a. up_all u (omega (arith, u.high, c.loop-i-test.false)) c.requires r a _ _ refl refl refl
