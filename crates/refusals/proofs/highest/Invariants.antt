@@ -1,0 +1,14 @@
+-- one byte more
+use mathlib.Core.Path.{◌≡◌, ap}
+use mathlib.Core.List.{List}
+use Prim.Native.Nat.{ℕ, ◌-◌, ◌+◌, ◌≤◌, ◌<◌}
+use native.Mathlib.Decide.{dec_lt}
+use native.Mathlib.Omega.{arith}
+use lib.ListN.{get_or}
+use Rattle.refusals.proofs.highest.Given as goal
+
+abbrev pub invariant-loop-i : goal.invariant-loop-i
+invariant-loop-i l = (l.p ≤ l.i) × (l.i ≤ l.stop) × ((j : ℕ) → l.p ≤ j → j < l.i → get_or l.text j 0 ≤ l.m)
+
+abbrev pub decreases-loop-i : goal.decreases-loop-i
+decreases-loop-i l = l.stop - l.i
