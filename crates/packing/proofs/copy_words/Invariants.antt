@@ -1,0 +1,14 @@
+-- The invariant: the words passed stand in front. Assumes nothing.
+use mathlib.Core.Path.{◌≡◌, refl, ◌∙◌}
+use Prim.Native.Nat.{◌-◌, ◌≤◌, ◌<◌}
+use native.Mathlib.Omega.{arith}
+use lib.ListN.{length, length-set, take}
+use Rattle.writing.specs.Writes.{stored}
+use Rattle.packing.proofs.Overs.{stored_more, stored_over}
+use Rattle.packing.proofs.copy_words.Given as goal
+
+abbrev pub invariant-loop-i : goal.invariant-loop-i
+invariant-loop-i l = (l.i ≤ l.n) × (length l.dst ≡ length l.initial.dst) × (l.dst ≡ stored l.initial.dst 0 (take l.i l.src))
+
+abbrev pub decreases-loop-i : goal.decreases-loop-i
+decreases-loop-i l = l.n - l.i
