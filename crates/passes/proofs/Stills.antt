@@ -49,11 +49,11 @@ module _ (look : Table Bytes) (y : ℕ) (t : Bytes) {w : List ℕ} {i : ℕ} (r 
 
   three : Leaves 3
   unfolding step_of node_of unroll
-  three p q h = bottom_up_idle _ t r a h
+  three p q h = bottom_up_idle (node_of 3 look y) t r a h
 
   four : Leaves 4
   unfolding step_of node_of concatenate
-  four p q h = rw (q refl) (bottom_up_idle _ t r a h)
+  four p q h = rw (q refl) (bottom_up_idle (node_of 4 look y) t r a h)
 
   five : Leaves 5
   unfolding step_of node_of factor
@@ -61,11 +61,11 @@ module _ (look : Table Bytes) (y : ℕ) (t : Bytes) {w : List ℕ} {i : ℕ} (r 
 
   six : Leaves 6
   unfolding step_of node_of list
-  six p q h = bottom_up_idle _ t r a h
+  six p q h = bottom_up_idle (node_of 6 look y) t r a h
 
   seven : Leaves 7
   unfolding step_of node_of restore
-  seven p q h = bottom_up_idle _ t r a h
+  seven p q h = bottom_up_idle (node_of 7 look y) t r a h
 
   pub step_idle : (n : ℕ) → Leaves n
   step_idle n = number Leaves n 1 one (λ a. number Leaves n 2 two (λ b. number Leaves n 3 three (λ c. number Leaves n 4 four (λ d. number Leaves n 5 five (λ e. number Leaves n 6 six (λ f. number Leaves n 7 seven (λ g p q h. other_step n g a b c d e f look y (resolve t r))))))))
