@@ -21,7 +21,7 @@ use rows::{Lookup, Shape};
 use writing::{Place, Wrote};
 
 // An item of an unrolled repeat of e: e, e? or e*.
-#[derive(Drop)]
+#[derive(Clone, Copy)]
 pub enum Item {
     Once,
     Maybe,
@@ -29,7 +29,7 @@ pub enum Item {
 }
 
 // How often an unrolled repeat has each item, in this order: e, e?, e*.
-#[derive(Drop)]
+#[derive(Clone, Copy)]
 pub struct Items {
     pub plain: usize,
     pub opts: usize,

@@ -15,14 +15,14 @@ use grammar::{ROW_WIDTH, SIZE, X, Y};
 use rows::{Lookup, Shape};
 
 // Where the next row and the next byte of text go.
-#[derive(Drop)]
+#[derive(Clone, Copy)]
 pub struct Place {
     pub rows: usize,
     pub text: usize,
 }
 
 // The place after what was written, or Full where it does not fit.
-#[derive(Drop)]
+#[derive(Clone, Copy)]
 pub enum Wrote {
     Done(Place),
     Full,
