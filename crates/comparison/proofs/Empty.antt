@@ -60,7 +60,7 @@ found_among j (r ∷ t) x k s h = go (same_bytes r.name x) refl h (found_among (
 member_of : (r : Rule Bytes) (t : Table Bytes) → Among r t → member r.name (names t) ≡ true
 member_of r (s ∷ t) here = or_left (same_bytes r.name r.name) (member r.name (names t)) (eq_same_bytes r.name r.name refl)
 member_of r (s ∷ t) (there a) = or_right (same_bytes r.name s.name) (member r.name (names t)) (member_of r t a)
-member_of r [] x' = elim x' [ ]
+member_of r [] m = elim m [ ]
 
 -- where no name is there twice, a rule of the table is the one that its name finds
 pub record Finding (r : Rule Bytes) (t : Table Bytes) (j : ℕ) : Type 0 where
@@ -79,7 +79,7 @@ finds_it r j (s ∷ t) h (there a) =
         sym (ap (λ (x : Bytes). member x (names t)) (same_bytes_eq s.name r.name e) ∙ member_of r t a)
         ∙ neither_left (member s.name (names t)) (repeated (names t)) h
     go false e = refl
-finds_it r j [] h x'' = elim x'' [ ]
+finds_it r j [] h m = elim m [ ]
 
 -- ---- the left rules
 
@@ -97,7 +97,7 @@ left_same i (x ∷ l) t h r here = go (lookup 0 t r.name) refl (both_left (rule_
         rule_same : (a b : Rule Bytes) → a.name ≡ b.name → a.type ≡ b.type → a.body ≡ b.body → a ≡ b
         rule_same a b p q k = λ z. record { name = p z; type = q z; body = k z }
 left_same i (x ∷ l) t h r (there a) = left_same (suc i) l t (both_right (rule_entries i x (lookup 0 t x.name)) (left_entries (suc i) l t) h) r a
-left_same i [] t h r x'' = elim x'' [ ]
+left_same i [] t h r m = elim m [ ]
 
 left_none : (i : ℕ) (l t : Table Bytes) → repeated (names t) ≡ false → ((r : Rule Bytes) → Among r l → Among r t) → left_entries i l t ≡ []
 left_none i [] t d h = refl
@@ -135,7 +135,7 @@ right_named l j (x ∷ t) h s here = go (member s.name (names l)) refl h
     go true e f = refl
     go false e f = cons_nil f
 right_named l j (x ∷ t) h s (there a) = right_named l (suc j) t (both_right (cond (member x.name (names l)) [] (only_right j ∷ [])) (right_entries l (suc j) t) h) s a
-right_named l j [] h s x'' = elim x'' [ ]
+right_named l j [] h s m = elim m [ ]
 
 right_none : (l : Table Bytes) (j : ℕ) (t : Table Bytes) → ((s : Rule Bytes) → Among s t → Among s l) → right_entries l j t ≡ []
 right_none l j [] h = refl
