@@ -1,10 +1,13 @@
 #!/usr/bin/env bash
 # Compiles each example in C and Rust with the static library, runs it and compares what it prints with its .txt:  run.sh [LIBRARY.a]
+# Without LIBRARY.a it takes the repository's own, built over what is proved.
 set -euo pipefail
 here=$(cd "$(dirname "$0")" && pwd)
-library=${1:-$here/../target/staticlib/libarvedun.a}
 [ "$(uname -m)" = x86_64 ] || { echo "examples: skipped, the library is for x86-64"; exit 0; }
-[ -f "$library" ] || (cd "$here/.." && said=$(rt staticlib arvedun 2>&1)) || { echo "examples: rt staticlib arvedun failed" >&2; exit 1; }
+if [ $# = 0 ]; then
+    said=$(cd "$here/../crates/arvedun" && rt lib 2>&1) || { tail -n 20 <<<"$said" >&2; echo "examples: rt lib failed in crates/arvedun" >&2; exit 1; }
+fi
+library=${1:-$here/../crates/arvedun/out/libarvedun.a}
 tmp=$(mktemp -d); trap 'rm -rf "$tmp"' EXIT
 cp "$library" "$tmp/libarvedun.a"
 same() { "$tmp/program" >"$tmp/said"; diff "$here/$1.txt" "$tmp/said" || { echo "$2: not as expected"; exit 1; }; echo "$2: as expected"; }

@@ -1,6 +1,6 @@
 /* Arvedun: takes a grammar as rules, rows and text in lent memory, and gives it back optimized, or one of eight refusals
    (arvedun_optimize); tells how two grammars differ (arvedun_compare, arvedun_shown) and why a loop stays a loop (arvedun_explain).
-   C99, self-contained. Link libarvedun.a (`rt staticlib arvedun`), for x86-64 Linux. Nothing is allocated, read or written but what
+   C99, self-contained. Link libarvedun.a (`rt lib` in crates/arvedun), for x86-64 Linux. Nothing is allocated, read or written but what
    is lent, and nothing is kept between calls: calls on areas of their own may run in several threads at once. */
 #ifndef ARVEDUN_H
 #define ARVEDUN_H

@@ -3,7 +3,7 @@
 #![tactic(auto)]
 
 ghost use Rattle.std.specs.Prelude.{◌≡◌, ◌≤◌, length};
-ghost use Rattle.io.specs.Counts.{IsPrefixLen};
+ghost use Rattle.areas.specs.Counts.{IsPrefixLen};
 
 use optimizer::Answer;
 use refusals::{FULL_MARKS, FULL_ROWS, FULL_RULES, FULL_TEXT};

@@ -3,6 +3,7 @@ ghost use Rattle.std.specs.Prelude.{◌+◌, ◌*◌, ◌≤◌, length};
 ghost use Rattle.replay.specs.Run.{Counted};
 
 use crate::input::Case;
+use crate::streams::Streams;
 use crate::{input, output};
 use areas::{ROWS_AREA, RULES_AREA};
 use comparer::{Compared, FULL_LIST, Literal};
@@ -19,9 +20,9 @@ pub struct Place {
     pub whole: bool,
 }
 
-pub fn next() -> Place {
+pub fn next(streams: &mut Streams) -> Place {
     let mut b = [0; 16];
-    if !input::read(&mut b, 16) {
+    if !input::read(streams, &mut b, 16) {
         return Place {
             rule: 0,
             row: 0,
@@ -37,6 +38,7 @@ pub fn next() -> Place {
 
 // The answer to the left table c, whose words and text stand in `bytes`, and the right table d, whose stand in `more`.
 pub fn answer(
+    streams: &mut Streams,
     c: Case,
     bytes: &[u8],
     d: Case,
@@ -57,6 +59,7 @@ pub fn answer(
     let text = input::words(bytes, rows_at, &mut rows, m);
     let end = text + c.text;
     beside(
+        streams,
         c.short % crate::TOOL,
         &rules[..n],
         &rows[..m],
@@ -71,6 +74,7 @@ pub fn answer(
 
 // The same, the left table's words and text at hand.
 fn beside(
+    streams: &mut Streams,
     short: u32,
     left_rules: &[u32],
     left_rows: &[u32],
@@ -93,6 +97,7 @@ fn beside(
     let text = input::words(more, rows_at, &mut rows, m);
     let end = text + d.text;
     give(
+        streams,
         short,
         left_rules,
         left_rows,
@@ -108,6 +113,7 @@ fn beside(
 }
 
 fn give(
+    streams: &mut Streams,
     short: u32,
     left_rules: &[u32],
     left_rows: &[u32],
@@ -145,7 +151,7 @@ fn give(
         at.rule,
         at.row,
     );
-    put_answer(answers, put, r, s, &list)
+    put_answer(streams, answers, put, r, s, &list)
 }
 
 // The call, with marks of its own.
@@ -175,6 +181,7 @@ fn compared(
 }
 
 fn put_answer(
+    streams: &mut Streams,
     answers: &mut [u8],
     put: usize,
     r: Compared,
@@ -185,6 +192,6 @@ fn put_answer(
     ensures { result ≤ length answers.old }
 {
     let first = [r.number, r.side, r.count, s.found, s.offset, s.length];
-    let next = output::put_words(answers, put, &first);
-    output::give_list(answers, next, list, r.count)
+    let next = output::put_words(streams, answers, put, &first);
+    output::give_list(streams, answers, next, list, r.count)
 }

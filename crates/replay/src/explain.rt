@@ -3,6 +3,7 @@ ghost use Rattle.std.specs.Prelude.{◌≤◌, length};
 ghost use Rattle.replay.specs.Run.{Counted};
 
 use crate::input::Case;
+use crate::streams::Streams;
 use crate::{input, output};
 use areas::{ROWS_AREA, RULES_AREA};
 use explainer::{Explained, FULL_LIST};
@@ -18,9 +19,9 @@ pub struct Asked {
     pub whole: bool,
 }
 
-pub fn next() -> Asked {
+pub fn next(streams: &mut Streams) -> Asked {
     let mut b = [0; 8];
-    if !input::read(&mut b, 8) {
+    if !input::read(streams, &mut b, 8) {
         return Asked {
             row: 0,
             whole: false,
@@ -33,7 +34,14 @@ pub fn next() -> Asked {
 }
 
 // The answer to the table c, whose words and text stand in `bytes`.
-pub fn answer(c: Case, bytes: &[u8], row: usize, answers: &mut [u8], put: usize) -> usize
+pub fn answer(
+    streams: &mut Streams,
+    c: Case,
+    bytes: &[u8],
+    row: usize,
+    answers: &mut [u8],
+    put: usize,
+) -> usize
     requires counted { Counted c }
     requires in_bounds { (135360 ≤ length bytes.now) × (put ≤ length answers.old) × (131072 ≤ length answers.old) }
     ensures { result ≤ length answers.old }
@@ -46,6 +54,7 @@ pub fn answer(c: Case, bytes: &[u8], row: usize, answers: &mut [u8], put: usize)
     let text = input::words(bytes, rows_at, &mut rows, m);
     let end = text + c.text;
     give(
+        streams,
         c.short % crate::TOOL,
         &rules[..n],
         &rows[..m],
@@ -57,6 +66,7 @@ pub fn answer(c: Case, bytes: &[u8], row: usize, answers: &mut [u8], put: usize)
 }
 
 fn give(
+    streams: &mut Streams,
     short: u32,
     rules: &[u32],
     rows: &[u32],
@@ -70,7 +80,7 @@ fn give(
 {
     let mut list = [0xA5A5A5A5; LIST_AREA];
     let r = explained(short, rules, rows, text, row, &mut list);
-    put_answer(answers, put, r, &list)
+    put_answer(streams, answers, put, r, &list)
 }
 
 // The call, with marks of its own.
@@ -93,11 +103,17 @@ fn explained(
     )
 }
 
-fn put_answer(answers: &mut [u8], put: usize, r: Explained, list: &[u32; LIST_AREA]) -> usize
+fn put_answer(
+    streams: &mut Streams,
+    answers: &mut [u8],
+    put: usize,
+    r: Explained,
+    list: &[u32; LIST_AREA],
+) -> usize
     requires { (put ≤ length answers.old) × (131072 ≤ length answers.old) }
     ensures { result ≤ length answers.old }
 {
     let first = [r.number, r.answer, r.rule, r.at, r.met, r.opened];
-    let next = output::put_words(answers, put, &first);
-    output::give_singles(answers, next, list, r.opened)
+    let next = output::put_words(streams, answers, put, &first);
+    output::give_singles(streams, answers, next, list, r.opened)
 }

@@ -1,8 +1,9 @@
 // Reading cases.
 ghost use Rattle.std.specs.Prelude.{◌≡◌, ◌+◌, ◌*◌, ◌≤◌, length};
-ghost use Rattle.io.specs.Counts.{IsPrefixLen};
+ghost use Rattle.areas.specs.Counts.{IsPrefixLen};
 ghost use Rattle.replay.specs.Run.{Counted};
 
+use crate::streams::Streams;
 use areas::{ROWS_AREA, RULES_AREA};
 
 // What a case may carry: 1,040 rule words, 16,400 row words and 65,600 bytes of text.
@@ -26,27 +27,27 @@ pub struct Case {
 }
 
 // The next case, what its words count in front of the area.
-pub fn next(b: &mut [u8]) -> Case
+pub fn next(streams: &mut Streams, b: &mut [u8]) -> Case
     requires { 135360 ≤ length b.old }
     ensures { Counted result }
 {
-    let c = head(b);
+    let c = head(streams, b);
     let n = 4 * c.rules + 4 * c.rows + c.text;
-    if read(b, n) { c } else { none() }
+    if read(streams, b, n) { c } else { none() }
 }
 
 // Whether the next n bytes are there; then they stand in front of the area.
-pub fn read(b: &mut [u8], n: usize) -> bool
+pub fn read(streams: &mut Streams, b: &mut [u8], n: usize) -> bool
     requires { n ≤ length b.old }
 {
-    io::read_full(0, &mut b[..n]) == n
+    streams.read(&mut b[..n])
 }
 
-fn head(b: &mut [u8]) -> Case
+fn head(streams: &mut Streams, b: &mut [u8]) -> Case
     requires { 16 ≤ length b.old }
     ensures { Counted result }
 {
-    if !read(b, 16) {
+    if !read(streams, b, 16) {
         return none();
     }
     head_at(b)

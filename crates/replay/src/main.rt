@@ -22,6 +22,7 @@ mod compare;
 mod explain;
 mod input;
 mod output;
+mod streams;
 
 ghost use Rattle.std.specs.Prelude.{◌≤◌, length};
 ghost use Rattle.replay.specs.Run.{Counted};
@@ -29,6 +30,8 @@ ghost use Rattle.replay.specs.Run.{Counted};
 use areas::{ROWS_AREA, RULES_AREA};
 use input::{CASE_BYTES, Case};
 use output::ANSWERS;
+use std::io;
+use streams::Streams;
 
 // A tool's number is the fourth word by this.
 const TOOL: u32 = 1000;
@@ -44,53 +47,66 @@ struct State {
     on: bool,
 }
 
-fn main() {
+fn main(rt: HostRuntime) -> io::Result<()> {
     let mut bytes = input::area();
     let mut answers = output::area();
-    run(&mut bytes, &mut answers);
+    let mut streams = Streams::new(rt);
+    run(&mut streams, &mut bytes, &mut answers);
+    streams.close()
 }
 
 // All cases. A proved loop has to end, so it counts down from a number that no run uses up.
-fn run(bytes: &mut [u8; CASE_BYTES], answers: &mut [u8; ANSWERS]) {
+fn run(streams: &mut Streams, bytes: &mut [u8; CASE_BYTES], answers: &mut [u8; ANSWERS]) {
     let mut s = State { put: 0, on: true };
     let mut turns = u64::MAX;
     while turns > 0 && s.on {
-        s = turn(bytes, answers, s.put);
+        s = turn(streams, bytes, answers, s.put);
         turns -= 1;
     }
-    output::write(answers, s.put);
+    output::write(streams, answers, s.put);
 }
 
 // One case.
-fn turn(bytes: &mut [u8; CASE_BYTES], answers: &mut [u8; ANSWERS], put: usize) -> State
+fn turn(
+    streams: &mut Streams,
+    bytes: &mut [u8; CASE_BYTES],
+    answers: &mut [u8; ANSWERS],
+    put: usize,
+) -> State
     requires { put ≤ 131072 }
     ensures { result.put ≤ 131072 }
 {
-    let c = input::next(bytes);
+    let c = input::next(streams, bytes);
     if !c.whole {
         return State { put, on: false };
     }
     if c.short / TOOL == COMPARE {
-        return beside(c, bytes, answers, put);
+        return beside(streams, c, bytes, answers, put);
     }
     if c.short / TOOL == EXPLAIN {
-        return explained(c, bytes, answers, put);
+        return explained(streams, c, bytes, answers, put);
     }
     State {
-        put: answer(c, bytes, answers, put),
+        put: answer(streams, c, bytes, answers, put),
         on: true,
     }
 }
 
 // One case of two tables, of which the first is there.
-fn beside(c: Case, bytes: &[u8], answers: &mut [u8; ANSWERS], put: usize) -> State
+fn beside(
+    streams: &mut Streams,
+    c: Case,
+    bytes: &[u8],
+    answers: &mut [u8; ANSWERS],
+    put: usize,
+) -> State
     requires counted { Counted c }
     requires in_bounds { (135360 ≤ length bytes.now) × (put ≤ 131072) }
     ensures { result.put ≤ 131072 }
 {
     let mut more = input::area();
-    let d = input::next(&mut more);
-    let at = compare::next();
+    let d = input::next(streams, &mut more);
+    let at = compare::next(streams);
     if !d.whole {
         return State { put, on: false };
     }
@@ -98,29 +114,35 @@ fn beside(c: Case, bytes: &[u8], answers: &mut [u8; ANSWERS], put: usize) -> Sta
         return State { put, on: false };
     }
     State {
-        put: compare::answer(c, bytes, d, &more, at, answers, put),
+        put: compare::answer(streams, c, bytes, d, &more, at, answers, put),
         on: true,
     }
 }
 
 // One case of a table, which is there, and a row of it.
-fn explained(c: Case, bytes: &[u8], answers: &mut [u8; ANSWERS], put: usize) -> State
+fn explained(
+    streams: &mut Streams,
+    c: Case,
+    bytes: &[u8],
+    answers: &mut [u8; ANSWERS],
+    put: usize,
+) -> State
     requires counted { Counted c }
     requires in_bounds { (135360 ≤ length bytes.now) × (put ≤ 131072) }
     ensures { result.put ≤ 131072 }
 {
-    let at = explain::next();
+    let at = explain::next(streams);
     if !at.whole {
         return State { put, on: false };
     }
     State {
-        put: explain::answer(c, bytes, at.row, answers, put),
+        put: explain::answer(streams, c, bytes, at.row, answers, put),
         on: true,
     }
 }
 
 // The answer to the case whose rule words, row words and text stand in `bytes`.
-fn answer(c: Case, bytes: &[u8], answers: &mut [u8], put: usize) -> usize
+fn answer(streams: &mut Streams, c: Case, bytes: &[u8], answers: &mut [u8], put: usize) -> usize
     requires counted { Counted c }
     requires in_bounds { (135360 ≤ length bytes.now) × (put ≤ length answers.old) × (131072 ≤ length answers.old) }
     ensures { result ≤ length answers.old }
@@ -133,6 +155,7 @@ fn answer(c: Case, bytes: &[u8], answers: &mut [u8], put: usize) -> usize
     let text = input::words(bytes, rows_at, &mut rows, m);
     let end = text + c.text;
     output::give(
+        streams,
         answers,
         put,
         c.short,

@@ -1,6 +1,7 @@
 // Writing answers: they are gathered in one area, which is written where the next piece has no room.
 ghost use Rattle.std.specs.Prelude.{◌+◌, ◌*◌, ◌≤◌, length};
 
+use crate::streams::Streams;
 use areas::{ROWS_AREA, RULES_AREA, TEXT_AREA};
 use optimizer::{Answer, REPORT};
 
@@ -18,14 +19,15 @@ struct Given {
     same: bool,
 }
 
-pub fn write(answers: &[u8], put: usize)
+pub fn write(streams: &mut Streams, answers: &[u8], put: usize)
     requires { put ≤ length answers.now }
 {
-    io::write_all(1, &answers[..put]);
+    streams.write(&answers[..put]);
 }
 
 // The answer to a table, behind what stands there.
 pub fn give(
+    streams: &mut Streams,
     answers: &mut [u8],
     put: usize,
     short: u32,
@@ -48,10 +50,11 @@ pub fn give(
         &mut out_rows,
         &mut out_text,
     );
-    put_answer(answers, put, a, &out_rules, &out_rows, &out_text)
+    put_answer(streams, answers, put, a, &out_rules, &out_rows, &out_text)
 }
 
 fn put_answer(
+    streams: &mut Streams,
     answers: &mut [u8],
     put: usize,
     a: Answer,
@@ -62,88 +65,120 @@ fn put_answer(
     requires { (put ≤ length answers.old) × (131072 ≤ length answers.old) }
     ensures { result ≤ length answers.old }
 {
-    let put = numbers(answers, put, a);
-    let rules = give_words(answers, put, out_rules, a.rules);
-    let rows = give_words(answers, rules.put, out_rows, a.rows);
-    last(answers, rows.put, rules.same & rows.same, out_text, a.text)
+    let put = numbers(streams, answers, put, a);
+    let rules = give_words(streams, answers, put, out_rules, a.rules);
+    let rows = give_words(streams, answers, rules.put, out_rows, a.rows);
+    last(
+        streams,
+        answers,
+        rows.put,
+        rules.same & rows.same,
+        out_text,
+        a.text,
+    )
 }
 
-fn last(answers: &mut [u8], put: usize, same: bool, out_text: &[u8], count: u32) -> usize
+fn last(
+    streams: &mut Streams,
+    answers: &mut [u8],
+    put: usize,
+    same: bool,
+    out_text: &[u8],
+    count: u32,
+) -> usize
     requires { (put ≤ length answers.old) × (1 ≤ length answers.old) × (length out_text.now ≤ length answers.old) }
     ensures { result ≤ length answers.old }
 {
     let n = areas::bytes_of(out_text, count);
-    let put = put_bytes(answers, put, &out_text[..n]);
+    let put = put_bytes(streams, answers, put, &out_text[..n]);
     let flag = [(same & areas::same_bytes(out_text, n)) as u8];
-    put_bytes(answers, put, &flag)
+    put_bytes(streams, answers, put, &flag)
 }
 
-fn numbers(answers: &mut [u8], put: usize, a: Answer) -> usize
+fn numbers(streams: &mut Streams, answers: &mut [u8], put: usize, a: Answer) -> usize
     requires { (put ≤ length answers.old) × (56 ≤ length answers.old) }
     ensures { result ≤ length answers.old }
 {
     let first = [a.number, a.rules, a.rows, a.text];
-    let next = put_words(answers, put, &first);
+    let next = put_words(streams, answers, put, &first);
     let report = a.report;
-    put_report(answers, next, report)
+    put_report(streams, answers, next, report)
 }
 
-fn put_report(answers: &mut [u8], put: usize, report: [u32; REPORT]) -> usize
+fn put_report(streams: &mut Streams, answers: &mut [u8], put: usize, report: [u32; REPORT]) -> usize
     requires { (put ≤ length answers.old) × (56 ≤ length answers.old) }
     ensures { result ≤ length answers.old }
 {
-    put_words(answers, put, &report)
+    put_words(streams, answers, put, &report)
 }
 
-fn give_words(answers: &mut [u8], put: usize, area: &[u32], count: u32) -> Given
+fn give_words(
+    streams: &mut Streams,
+    answers: &mut [u8],
+    put: usize,
+    area: &[u32],
+    count: u32,
+) -> Given
     requires { (put ≤ length answers.old) × (4 * length area.now ≤ length answers.old) }
     ensures { result.put ≤ length answers.old }
 {
     let n = areas::words_of(area, count);
     Given {
-        put: put_words(answers, put, &area[..n]),
+        put: put_words(streams, answers, put, &area[..n]),
         same: areas::same_words(area, n),
     }
 }
 
 // The entries of a list by their count, and a byte: 1 if everything of its area past them is unchanged.
-pub fn give_list(answers: &mut [u8], put: usize, area: &[u32], count: u32) -> usize
+pub fn give_list(
+    streams: &mut Streams,
+    answers: &mut [u8],
+    put: usize,
+    area: &[u32],
+    count: u32,
+) -> usize
     requires { (put ≤ length answers.old) × (1 ≤ length answers.old) × (4 * length area.now ≤ length answers.old) }
     ensures { result ≤ length answers.old }
 {
-    let given = give_words(answers, put, area, count);
+    let given = give_words(streams, answers, put, area, count);
     let flag = [given.same as u8];
-    put_bytes(answers, given.put, &flag)
+    put_bytes(streams, answers, given.put, &flag)
 }
 
 // The same for a list of single words.
-pub fn give_singles(answers: &mut [u8], put: usize, area: &[u32], count: u32) -> usize
+pub fn give_singles(
+    streams: &mut Streams,
+    answers: &mut [u8],
+    put: usize,
+    area: &[u32],
+    count: u32,
+) -> usize
     requires { (put ≤ length answers.old) × (1 ≤ length answers.old) × (4 * length area.now ≤ length answers.old) }
     ensures { result ≤ length answers.old }
 {
     let n = areas::singles_of(area, count);
-    let next = put_words(answers, put, &area[..n]);
+    let next = put_words(streams, answers, put, &area[..n]);
     let flag = [areas::same_words(area, n) as u8];
-    put_bytes(answers, next, &flag)
+    put_bytes(streams, answers, next, &flag)
 }
 
 // A place with n bytes of room.
-fn room(answers: &[u8], put: usize, n: usize) -> usize
+fn room(streams: &mut Streams, answers: &[u8], put: usize, n: usize) -> usize
     requires { (put ≤ length answers.now) × (n ≤ length answers.now) }
     ensures { result + n ≤ length answers.now }
 {
     if n <= answers.len() - put {
         return put;
     }
-    write(answers, put);
+    write(streams, answers, put);
     0
 }
 
-pub fn put_words(answers: &mut [u8], put: usize, words: &[u32]) -> usize
+pub fn put_words(streams: &mut Streams, answers: &mut [u8], put: usize, words: &[u32]) -> usize
     requires { (put ≤ length answers.old) × (4 * length words.now ≤ length answers.old) }
     ensures { result ≤ length answers.old }
 {
-    let from = room(answers, put, 4 * words.len());
+    let from = room(streams, answers, put, 4 * words.len());
     let mut at = from;
     let mut i = 0;
     while i < words.len() {
@@ -167,10 +202,12 @@ fn low(w: u32) -> u8 {
     (w & 0xff) as u8
 }
 
-fn put_bytes(answers: &mut [u8], put: usize, s: &[u8]) -> usize
+fn put_bytes(streams: &mut Streams, answers: &mut [u8], put: usize, s: &[u8]) -> usize
     requires { (put ≤ length answers.old) × (length s.now ≤ length answers.old) }
     ensures { result ≤ length answers.old }
 {
-    let from = room(answers, put, s.len());
-    from + bytes::copy(s, &mut answers[from..])
+    let from = room(streams, answers, put, s.len());
+    let next = from + s.len();
+    answers[from..next].copy_from_slice(s);
+    next
 }

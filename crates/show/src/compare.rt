@@ -2,6 +2,7 @@
 ghost use Rattle.std.specs.Prelude.{◌+◌, ◌*◌, ◌≤◌, length};
 
 use crate::print;
+use crate::print::Page;
 use areas::RULES_AREA;
 use comparer::FULL_LIST;
 use grammar::{LENGTH, ROW_WIDTH, ROWS, RULE_WIDTH};
@@ -18,6 +19,7 @@ const LEFT: u32 = 0;
 const RIGHT: u32 = 1;
 
 pub fn changes<'a>(
+    page: &mut Page,
     left_rules: &[u32],
     left_rows: &[u32],
     left_text: &'a [u8],
@@ -40,11 +42,15 @@ pub fn changes<'a>(
         &mut right_marks,
     );
     if c.number != 0 {
-        print::text(b"  changes: not compared, a RestoreOnErr is no kind of an input\n");
+        print::text(
+            page,
+            b"  changes: not compared, a RestoreOnErr is no kind of an input\n",
+        );
         return;
     }
     let n = areas::words_of(&list, c.count);
     entries(
+        page,
         &list[..n],
         left_rules,
         left_rows,
@@ -56,6 +62,7 @@ pub fn changes<'a>(
 }
 
 fn entries<'a>(
+    page: &mut Page,
     list: &[u32],
     left_rules: &[u32],
     left_rows: &[u32],
@@ -66,12 +73,13 @@ fn entries<'a>(
 ) {
     let n = list.len() / ENTRY;
     if n == 0 {
-        print::text(b"  changes: none\n");
+        print::text(page, b"  changes: none\n");
     }
     let mut i = 0;
     while i < n {
         let at = ENTRY * i;
         entry(
+            page,
             list[at],
             list[at + 1],
             list[at + 2],
@@ -89,6 +97,7 @@ fn entries<'a>(
 
 // An entry. Every rule of these tables is found on both sides.
 fn entry<'a>(
+    page: &mut Page,
     sort: u32,
     left: u32,
     right: u32,
@@ -100,15 +109,16 @@ fn entry<'a>(
     right_rows: &[u32],
     right_text: &'a [u8],
 ) {
-    print::text(b"  changes: ");
-    name(left_rules, left_text, left);
+    print::text(page, b"  changes: ");
+    name(page, left_rules, left_text, left);
     match sort {
-        OTHER_TYPE => print::text(b" has another type"),
+        OTHER_TYPE => print::text(page, b" has another type"),
         OTHER_TREE => {
-            print::text(b", row ");
-            print::number(row);
-            print::text(b" was ");
+            print::text(page, b", row ");
+            print::number(page, row);
+            print::text(page, b" was ");
             what(
+                page,
                 left_rules,
                 left_rows,
                 left_text,
@@ -119,8 +129,9 @@ fn entry<'a>(
                 left,
                 row,
             );
-            print::text(b", is ");
+            print::text(page, b", is ");
             what(
+                page,
                 left_rules,
                 left_rows,
                 left_text,
@@ -132,16 +143,17 @@ fn entry<'a>(
                 row,
             );
         }
-        _ => print::text(b" is found on one side"),
+        _ => print::text(page, b" is found on one side"),
     }
-    print::line();
+    print::line(page);
 }
 
-pub fn name(rules: &[u32], text: &[u8], rule: u32) {
+pub fn name(page: &mut Page, rules: &[u32], text: &[u8], rule: u32) {
     let i = print::wide(rule);
     if i < rules.len() / RULE_WIDTH {
         let at = RULE_WIDTH * i;
         print::span(
+            page,
             text,
             print::wide(rules[at]),
             print::wide(rules[at + LENGTH]),
@@ -151,6 +163,7 @@ pub fn name(rules: &[u32], text: &[u8], rule: u32) {
 
 // What stands at a row of a rule: a literal's bytes, another row's kind, or nothing, past the rule's last row.
 fn what<'a>(
+    page: &mut Page,
     left_rules: &[u32],
     left_rows: &[u32],
     left_text: &'a [u8],
@@ -176,35 +189,38 @@ fn what<'a>(
     )
     .found;
     if found == 1 {
-        print::text(b"\"");
-        print::text(comparer::shown(
-            left_rules,
-            left_rows,
-            left_text,
-            right_rules,
-            right_rows,
-            right_text,
-            side,
-            i,
-            k,
-        ));
-        print::text(b"\"");
+        print::text(page, b"\"");
+        print::text(
+            page,
+            comparer::shown(
+                left_rules,
+                left_rows,
+                left_text,
+                right_rules,
+                right_rows,
+                right_text,
+                side,
+                i,
+                k,
+            ),
+        );
+        print::text(page, b"\"");
     } else if side == LEFT {
-        kind(left_rules, left_rows, i, k);
+        kind(page, left_rules, left_rows, i, k);
     } else {
-        kind(right_rules, right_rows, i, k);
+        kind(page, right_rules, right_rows, i, k);
     }
 }
 
-fn kind(rules: &[u32], rows: &[u32], rule: usize, row: usize) {
+fn kind(page: &mut Page, rules: &[u32], rows: &[u32], rule: usize, row: usize) {
     if row < count(rules, rule) {
         let first = first(rules, rows, rule);
         if row < (rows.len() - first) / ROW_WIDTH {
-            print::kind_name(rows[first + ROW_WIDTH * row]);
+            print::kind_name(page, rows[first + ROW_WIDTH * row]);
             return;
         }
     }
-    print::text(b"nothing");
+    print::text(page, b"nothing");
 }
 
 // How many rows a rule has; none, if it is not there.

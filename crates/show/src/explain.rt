@@ -1,4 +1,5 @@
 // Why each loop of a table stays a loop, or that it becomes a Skip (document 02, No. 2): a sentence for each.
+use crate::print::Page;
 use crate::{compare, print};
 use areas::RULES_AREA;
 use explainer::{Explained, FULL_LIST};
@@ -57,46 +58,47 @@ const AN: usize = 17;
 
 const ON_THE_LEFT: usize = 18;
 
-fn say(phrase: usize) {
-    print::part(&PHRASES, b'\n', phrase);
+fn say(page: &mut Page, phrase: usize) {
+    print::part(page, &PHRASES, b'\n', phrase);
 }
 
 // The loops of a table. One above full size is refused, and gets no sentence.
-pub fn loops(rules: &[u32], rows: &[u32], text: &[u8]) {
+pub fn loops(page: &mut Page, rules: &[u32], rows: &[u32], text: &[u8]) {
     if rules.len() > FULL_RULES {
         return;
     }
     let n = rules.len() / RULE_WIDTH;
     let mut i = 0;
     while i < n {
-        of_rule(rules, rows, text, i as u32);
+        of_rule(page, rules, rows, text, i as u32);
         i += 1;
     }
 }
 
-fn of_rule(rules: &[u32], rows: &[u32], text: &[u8], rule: u32) {
+fn of_rule(page: &mut Page, rules: &[u32], rows: &[u32], text: &[u8], rule: u32) {
     let i = print::wide(rule);
     let from = compare::first(rules, rows, i) / ROW_WIDTH;
     let end = from + compare::least(compare::count(rules, i), rows.len() / ROW_WIDTH - from);
     let mut row = from;
     while row < end {
         if rows[ROW_WIDTH * row] == REP {
-            explain(rules, rows, text, rule, row);
+            explain(page, rules, rows, text, rule, row);
         }
         row += 1;
     }
 }
 
 // Row `row` of the table, a loop of the rule.
-fn explain(rules: &[u32], rows: &[u32], text: &[u8], rule: u32, row: usize) {
+fn explain(page: &mut Page, rules: &[u32], rows: &[u32], text: &[u8], rule: u32, row: usize) {
     let mut list = [0; FULL_LIST];
     let mut marks = [0; RULES_AREA];
     let e = explainer::explain(rules, rows, text, row, &mut list, &mut marks);
-    sentence(rules, rows, text, rule, row, e, &list);
+    sentence(page, rules, rows, text, rule, row, e, &list);
 }
 
 // The answer to it; nothing, where it is a refusal.
 fn sentence(
+    page: &mut Page,
     rules: &[u32],
     rows: &[u32],
     text: &[u8],
@@ -108,81 +110,86 @@ fn sentence(
     if e.number != 0 {
         return;
     }
-    print::text(b"  ");
-    place(rules, rows, text, rule, row);
-    print::space();
+    print::text(page, b"  ");
+    place(page, rules, rows, text, rule, row);
+    print::space(page);
     let answer = print::wide(e.answer);
-    say(compare::least(answer, UNKNOWN));
+    say(page, compare::least(answer, UNKNOWN));
     if answer >= UNKNOWN {
         let at = print::wide(e.at);
-        place(rules, rows, text, e.rule, at);
+        place(page, rules, rows, text, e.rule, at);
         match answer {
-            OTHER => other(rows, at),
-            MET_AGAIN => met_again(rules, text, e.met, list, print::wide(e.opened)),
-            _ => unknown(rows, text, at),
+            OTHER => other(page, rows, at),
+            MET_AGAIN => met_again(page, rules, text, e.met, list, print::wide(e.opened)),
+            _ => unknown(page, rows, text, at),
         }
     }
-    print::line();
+    print::line(page);
 }
 
 // A row of the table as a row of its rule.
-fn place(rules: &[u32], rows: &[u32], text: &[u8], rule: u32, row: usize) {
+fn place(page: &mut Page, rules: &[u32], rows: &[u32], text: &[u8], rule: u32, row: usize) {
     let from = compare::first(rules, rows, print::wide(rule)) / ROW_WIDTH;
     if from <= row {
-        say(ROW);
-        io::print_decimal(1, (row - from) as u64);
-        print::space();
-        say(OF);
-        compare::name(rules, text, rule);
+        say(page, ROW);
+        print::decimal(page, (row - from) as u64);
+        print::space(page);
+        say(page, OF);
+        compare::name(page, rules, text, rule);
     }
 }
 
-fn unknown(rows: &[u32], text: &[u8], row: usize) {
-    say(WHICH_NAMES);
+fn unknown(page: &mut Page, rows: &[u32], text: &[u8], row: usize) {
+    say(page, WHICH_NAMES);
     if row < rows.len() / ROW_WIDTH {
         let at = ROW_WIDTH * row;
-        print::span(text, print::wide(rows[at + X]), print::wide(rows[at + Y]));
+        print::span(
+            page,
+            text,
+            print::wide(rows[at + X]),
+            print::wide(rows[at + Y]),
+        );
     }
-    say(NO_RULE);
+    say(page, NO_RULE);
 }
 
-fn other(rows: &[u32], row: usize) {
-    say(WHICH_IS);
+fn other(page: &mut Page, rows: &[u32], row: usize) {
+    say(page, WHICH_IS);
     if row < rows.len() / ROW_WIDTH {
-        kind(rows[ROW_WIDTH * row]);
+        kind(page, rows[ROW_WIDTH * row]);
     }
 }
 
 // A kind at which a reading stops: a Choice only where it stands on the left of another.
-fn kind(k: u32) {
+fn kind(page: &mut Page, k: u32) {
     match k {
-        INSENS | OPT => say(AN),
-        _ => say(A),
+        INSENS | OPT => say(page, AN),
+        _ => say(page, A),
     }
-    print::kind_name(k);
+    print::kind_name(page, k);
     if k == CHOICE {
-        print::space();
-        say(ON_THE_LEFT);
+        print::space(page);
+        say(page, ON_THE_LEFT);
     }
 }
 
 // The rules being read are the first of the list.
-fn met_again(rules: &[u32], text: &[u8], met: u32, list: &[u32], opened: usize) {
-    say(WHICH_NAMES);
-    compare::name(rules, text, met);
-    say(BEING_READ);
-    names(rules, text, list, opened);
-    say(CLOSE);
+fn met_again(page: &mut Page, rules: &[u32], text: &[u8], met: u32, list: &[u32], opened: usize) {
+    say(page, WHICH_NAMES);
+    compare::name(page, rules, text, met);
+    say(page, BEING_READ);
+    names(page, rules, text, list, opened);
+    say(page, CLOSE);
 }
 
-fn names(rules: &[u32], text: &[u8], list: &[u32], count: usize) {
+fn names(page: &mut Page, rules: &[u32], text: &[u8], list: &[u32], count: usize) {
     let n = compare::least(count, list.len());
     let mut i = 0;
     while i < n {
         if i != 0 {
-            say(COMMA);
+            say(page, COMMA);
         }
-        compare::name(rules, text, list[i]);
+        compare::name(page, rules, text, list[i]);
         i += 1;
     }
 }

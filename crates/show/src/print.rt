@@ -7,32 +7,58 @@ use grammar::{
     REP_MIN_MAX, ROW_WIDTH, ROWS, RULE_WIDTH, SIZE, SKIP, STR, TYPE, X, Y,
 };
 use optimizer::{Answer, REPORT};
+use std::io;
 
-pub fn text(s: &[u8]) {
-    io::write_all(1, s);
+// Standard output. Once a write has failed nothing more is written, and `close` gives the error.
+#[derive(Drop)]
+pub struct Page {
+    rt: HostRuntime,
+    state: io::Result<()>,
 }
 
-pub fn number(n: u32) {
-    io::print_decimal(1, n as u64);
+impl Page {
+    pub fn new(rt: HostRuntime) -> Page {
+        Page { rt, state: Ok(()) }
+    }
+
+    pub fn close(self) -> io::Result<()> {
+        self.state
+    }
 }
 
-pub fn line() {
-    text(b"\n");
+pub fn text(page: &mut Page, s: &[u8]) {
+    if page.state.is_ok() {
+        page.state = page.rt.write_all(s);
+    }
 }
 
-pub fn space() {
-    text(b" ");
+pub fn decimal(page: &mut Page, n: u64) {
+    if page.state.is_ok() {
+        page.state = page.rt.print(n);
+    }
+}
+
+pub fn number(page: &mut Page, n: u32) {
+    decimal(page, n as u64);
+}
+
+pub fn line(page: &mut Page) {
+    text(page, b"\n");
+}
+
+pub fn space(page: &mut Page) {
+    text(page, b" ");
 }
 
 // A table before and after the call.
-pub fn both(rules: &[u32], rows: &[u32], literals: &[u8]) {
-    text(b"  before\n");
-    table(rules, rows, literals);
-    explain::loops(rules, rows, literals);
-    call(rules, rows, literals);
+pub fn both(page: &mut Page, rules: &[u32], rows: &[u32], literals: &[u8]) {
+    text(page, b"  before\n");
+    table(page, rules, rows, literals);
+    explain::loops(page, rules, rows, literals);
+    call(page, rules, rows, literals);
 }
 
-fn call(rules: &[u32], rows: &[u32], literals: &[u8]) {
+fn call(page: &mut Page, rules: &[u32], rows: &[u32], literals: &[u8]) {
     let mut out_rules = areas::rules();
     let mut out_rows = areas::rows();
     let mut out_text = areas::text();
@@ -45,12 +71,13 @@ fn call(rules: &[u32], rows: &[u32], literals: &[u8]) {
         &mut out_rows,
         &mut out_text,
     );
-    after(a, &out_rules, &out_rows, &out_text);
+    after(page, a, &out_rules, &out_rows, &out_text);
     if a.number == 0 {
         let n = areas::words_of(&out_rules, a.rules);
         let m = areas::words_of(&out_rows, a.rows);
         let t = areas::bytes_of(&out_text, a.text);
         compare::changes(
+            page,
             rules,
             rows,
             literals,
@@ -61,53 +88,54 @@ fn call(rules: &[u32], rows: &[u32], literals: &[u8]) {
     }
 }
 
-fn after(a: Answer, out_rules: &[u32], out_rows: &[u32], out_text: &[u8]) {
+fn after(page: &mut Page, a: Answer, out_rules: &[u32], out_rows: &[u32], out_text: &[u8]) {
     let number = a.number;
     if number != 0 {
-        refused(number);
+        refused(page, number);
         return;
     }
     let n = areas::words_of(out_rules, a.rules);
     let m = areas::words_of(out_rows, a.rows);
     let t = areas::bytes_of(out_text, a.text);
-    text(b"  after\n");
-    table(&out_rules[..n], &out_rows[..m], &out_text[..t]);
+    text(page, b"  after\n");
+    table(page, &out_rules[..n], &out_rows[..m], &out_text[..t]);
     let numbers = a.report;
-    report(numbers);
+    report(page, numbers);
 }
 
-fn report(numbers: [u32; REPORT]) {
-    text(b"  report:");
-    pair(numbers, 0);
-    pair(numbers, 2);
-    pair(numbers, 4);
-    pair(numbers, 6);
-    pair(numbers, 8);
-    pair(numbers, 10);
-    pair(numbers, 12);
-    line();
+fn report(page: &mut Page, numbers: [u32; REPORT]) {
+    text(page, b"  report:");
+    pair(page, numbers, 0);
+    pair(page, numbers, 2);
+    pair(page, numbers, 4);
+    pair(page, numbers, 6);
+    pair(page, numbers, 8);
+    pair(page, numbers, 10);
+    pair(page, numbers, 12);
+    line(page);
 }
 
 // A step's rows before and after.
-fn pair(numbers: [u32; REPORT], i: usize)
+fn pair(page: &mut Page, numbers: [u32; REPORT], i: usize)
     requires { i + 2 ≤ 14 }
 {
-    space();
-    number(numbers[i]);
-    text(b">");
-    number(numbers[i + 1]);
+    space(page);
+    number(page, numbers[i]);
+    text(page, b">");
+    number(page, numbers[i + 1]);
 }
 
-fn refused(n: u32) {
-    text(b"  refused: ");
-    number(n);
-    text(b" (");
-    reason(n);
-    text(b")\n");
+fn refused(page: &mut Page, n: u32) {
+    text(page, b"  refused: ");
+    number(page, n);
+    text(page, b" (");
+    reason(page, n);
+    text(page, b")\n");
 }
 
-fn reason(n: u32) {
+fn reason(page: &mut Page, n: u32) {
     part(
+        page,
         b"\n\
 an output or work area is below full size\n\
 a word count is no multiple of four, or the input is above full size\n\
@@ -122,34 +150,47 @@ packed text or rows above full size, in the input or after some step",
     );
 }
 
-fn table(rules: &[u32], rows: &[u32], literals: &[u8]) {
+fn table(page: &mut Page, rules: &[u32], rows: &[u32], literals: &[u8]) {
     let n = rules.len() / RULE_WIDTH;
     let mut first = 0;
     let mut i = 0;
     while i < n {
-        first = rule(rules, RULE_WIDTH * i, rows, first, literals);
+        first = rule(page, rules, RULE_WIDTH * i, rows, first, literals);
         i += 1;
     }
 }
 
 // A rule whose words stand at `at` and whose rows start at the word `first`; the word after them.
-fn rule(rules: &[u32], at: usize, rows: &[u32], first: usize, literals: &[u8]) -> usize
+fn rule(
+    page: &mut Page,
+    rules: &[u32],
+    at: usize,
+    rows: &[u32],
+    first: usize,
+    literals: &[u8],
+) -> usize
     requires at_in_bounds { at + 4 ≤ length rules.now }
     requires first_in_bounds { first ≤ length rows.now }
     ensures { result ≤ length rows.now }
 {
-    head(rules[at], rules[at + LENGTH], rules[at + TYPE], literals);
+    head(
+        page,
+        rules[at],
+        rules[at + LENGTH],
+        rules[at + TYPE],
+        literals,
+    );
     let n = fitting(rules[at + ROWS], rows.len() - first);
-    all(rows, first, n / ROW_WIDTH, literals);
+    all(page, rows, first, n / ROW_WIDTH, literals);
     first + n
 }
 
-fn head(offset: u32, length: u32, ty: u32, literals: &[u8]) {
-    text(b"    ");
-    span(literals, wide(offset), wide(length));
-    text(b", ");
-    type_name(ty);
-    line();
+fn head(page: &mut Page, offset: u32, length: u32, ty: u32, literals: &[u8]) {
+    text(page, b"    ");
+    span(page, literals, wide(offset), wide(length));
+    text(page, b", ");
+    type_name(page, ty);
+    line(page);
 }
 
 // The words of n cells, of as many of them as there are words for.
@@ -170,45 +211,45 @@ pub fn wide(n: u32) -> usize {
 }
 
 // The rows of a rule: all, or of many the first and the last four.
-fn all(rows: &[u32], first: usize, n: usize, literals: &[u8])
+fn all(page: &mut Page, rows: &[u32], first: usize, n: usize, literals: &[u8])
     requires { first + 4 * n ≤ length rows.now }
 {
     if n <= 16 {
-        some(rows, first, 0, n, literals);
+        some(page, rows, first, 0, n, literals);
         return;
     }
-    some(rows, first, 0, 4, literals);
-    text(b"         .. (");
-    io::print_decimal(1, (n - 8) as u64);
-    text(b" rows more)\n");
-    some(rows, first, n - 4, n, literals);
+    some(page, rows, first, 0, 4, literals);
+    text(page, b"         .. (");
+    decimal(page, (n - 8) as u64);
+    text(page, b" rows more)\n");
+    some(page, rows, first, n - 4, n, literals);
 }
 
-fn some(rows: &[u32], first: usize, from: usize, to: usize, literals: &[u8])
+fn some(page: &mut Page, rows: &[u32], first: usize, from: usize, to: usize, literals: &[u8])
     requires from_le_to { from ≤ to }
     requires to_in_bounds { first + 4 * to ≤ length rows.now }
 {
     let mut i = from;
     while i < to {
-        row(rows, first + ROW_WIDTH * i, i, literals);
+        row(page, rows, first + ROW_WIDTH * i, i, literals);
         i += 1;
     }
 }
 
-fn row(rows: &[u32], at: usize, i: usize, literals: &[u8])
+fn row(page: &mut Page, rows: &[u32], at: usize, i: usize, literals: &[u8])
     requires { at + 4 ≤ length rows.now }
 {
-    column(i);
-    column(wide(rows[at + SIZE]));
-    text(b"  ");
-    kind(rows[at], rows[at + X], rows[at + Y], literals);
-    line();
+    column(page, i);
+    column(page, wide(rows[at + SIZE]));
+    text(page, b"  ");
+    kind(page, rows[at], rows[at + X], rows[at + Y], literals);
+    line(page);
 }
 
 // A number below 100,000, to the right of eight places.
-fn column(n: usize) {
-    span(b"       ", 0, spaces(n));
-    io::print_decimal(1, n as u64);
+fn column(page: &mut Page, n: usize) {
+    span(page, b"       ", 0, spaces(n));
+    decimal(page, n as u64);
 }
 
 fn spaces(n: usize) -> usize {
@@ -223,77 +264,79 @@ fn spaces(n: usize) -> usize {
     }
 }
 
-fn kind(k: u32, x: u32, y: u32, literals: &[u8]) {
-    kind_name(k);
+fn kind(page: &mut Page, k: u32, x: u32, y: u32, literals: &[u8]) {
+    kind_name(page, k);
     match k {
-        STR | INSENS => quoted(literals, x, y),
-        IDENT => plain(literals, x, y),
-        RANGE => range(x, y),
-        PEEK_SLICE_END | REP_MIN_MAX => two(x, y),
-        PEEK_SLICE | REP_EXACT | REP_MIN | REP_MAX | SKIP => one(x),
+        STR | INSENS => quoted(page, literals, x, y),
+        IDENT => plain(page, literals, x, y),
+        RANGE => range(page, x, y),
+        PEEK_SLICE_END | REP_MIN_MAX => two(page, x, y),
+        PEEK_SLICE | REP_EXACT | REP_MIN | REP_MAX | SKIP => one(page, x),
         _ => {}
     }
 }
 
-fn quoted(literals: &[u8], offset: u32, length: u32) {
-    text(b" \"");
-    span(literals, wide(offset), wide(length));
-    text(b"\"");
+fn quoted(page: &mut Page, literals: &[u8], offset: u32, length: u32) {
+    text(page, b" \"");
+    span(page, literals, wide(offset), wide(length));
+    text(page, b"\"");
 }
 
-fn plain(literals: &[u8], offset: u32, length: u32) {
-    space();
-    span(literals, wide(offset), wide(length));
+fn plain(page: &mut Page, literals: &[u8], offset: u32, length: u32) {
+    space(page);
+    span(page, literals, wide(offset), wide(length));
 }
 
-fn range(first: u32, last: u32) {
-    space();
-    byte(first);
-    text(b"..");
-    byte(last);
+fn range(page: &mut Page, first: u32, last: u32) {
+    space(page);
+    byte(page, first);
+    text(page, b"..");
+    byte(page, last);
 }
 
 // A byte as a letter, or as its number where it has no sign.
-fn byte(x: u32) {
+fn byte(page: &mut Page, x: u32) {
     if 32 < x {
         if x < 127 {
-            text(&[b'\'', x as u8, b'\'']);
+            text(page, &[b'\'', x as u8, b'\'']);
             return;
         }
     }
-    number(x);
+    number(page, x);
 }
 
-fn one(x: u32) {
-    space();
-    number(x);
+fn one(page: &mut Page, x: u32) {
+    space(page);
+    number(page, x);
 }
 
-fn two(x: u32, y: u32) {
-    one(x);
-    text(b",");
-    one(y);
+fn two(page: &mut Page, x: u32, y: u32) {
+    one(page, x);
+    text(page, b",");
+    one(page, y);
 }
 
 // A literal, as far as it lies in the text.
-pub fn span(literals: &[u8], offset: usize, length: usize) {
+pub fn span(page: &mut Page, literals: &[u8], offset: usize, length: usize) {
     if offset <= literals.len() {
         if length <= literals.len() - offset {
-            text(&literals[offset..offset + length]);
+            text(page, &literals[offset..offset + length]);
         }
     }
 }
 
-fn type_name(ty: u32) {
+fn type_name(page: &mut Page, ty: u32) {
     part(
+        page,
         b"Normal Silent Atomic CompoundAtomic NonAtomic",
         b' ',
         wide(ty),
     );
 }
 
-pub fn kind_name(k: u32) {
+pub fn kind_name(page: &mut Page, k: u32) {
     part(
+        page,
         b"Str Insens Range Ident PeekSlice PeekSlice PosPred NegPred Seq Choice Opt Rep RepOnce RepExact RepMin RepMax RepMinMax Skip Push RestoreOnErr",
         b' ',
         wide(k),
@@ -301,10 +344,10 @@ pub fn kind_name(k: u32) {
 }
 
 // The part at place k of a list, whose parts have b between.
-pub fn part(list: &[u8], b: u8, k: usize) {
+pub fn part(page: &mut Page, list: &[u8], b: u8, k: usize) {
     let from = start(list, b, k);
     let to = end(list, b, from);
-    text(&list[from..to]);
+    text(page, &list[from..to]);
 }
 
 pub fn start(list: &[u8], b: u8, k: usize) -> usize
@@ -328,5 +371,8 @@ pub fn end(list: &[u8], b: u8, from: usize) -> usize
     requires { from ≤ length list.now }
     ensures { (from ≤ result) × (result ≤ length list.now) }
 {
-    bytes::scan::find(list, from, list.len(), b)
+    match list[from..].iter().position(|c| *c == b) {
+        Some(n) => from + n,
+        None => list.len(),
+    }
 }

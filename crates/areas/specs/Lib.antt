@@ -1,0 +1,2 @@
+-- What the contracts of `areas` cite.
+pub mod Counts
