@@ -22,7 +22,7 @@ use writing::Place;
 pub const REPORT: usize = 14;
 
 // The whole answer: the refusal's number or 0, the counts, and for each step the rows before and after it.
-#[derive(Drop)]
+#[derive(Clone, Copy)]
 pub struct Answer {
     pub number: u32,
     pub rules: u32,
