@@ -6,7 +6,7 @@ ghost use Rattle.grammar.specs.Numbers.{rule_width};
 ghost use Rattle.grammar.specs.Rows.{Span};
 ghost use Rattle.grammar.specs.Table.{Table, Words, resolve_table};
 ghost use Rattle.grammar.specs.Optimize.{answer, optimize};
-ghost use Rattle.grammar.specs.Optimize as result;
+ghost use Rattle.grammar.specs.Optimize as whole;
 ghost use Rattle.refusals.specs.Check.{lent};
 ghost use Rattle.passes.specs.Passes.{Lent};
 ghost use Rattle.admission.specs.Ready.{Ready};
@@ -33,7 +33,7 @@ pub struct Answer {
 
 // A refusal: its number, zero counts and a zero report.
 fn refused(number: u32) -> Answer
-    ensures* { λ r. ⌜ ((out : Words) → seen r out ≡ answer out (result.refused number)) ⌝ }
+    ensures { (out : Words) → seen result out ≡ answer out (whole.refused number) }
 {
     Answer {
         number: number,
@@ -57,7 +57,7 @@ fn finished(
     p: Place,
 ) -> Answer
     requires { Small count n n1 n2 n3 n4 n5 n6 p }
-    ensures* { λ r. ⌜ (r.number ≡ 0) × (r.rules ≡ count / rule_width) × (r.rows ≡ p.rows) × (r.text ≡ p.text) × (r.report ≡ n ∷ n1 ∷ n1 ∷ n2 ∷ n2 ∷ n3 ∷ n3 ∷ n4 ∷ n4 ∷ n5 ∷ n5 ∷ n6 ∷ n6 ∷ p.rows ∷ []) ⌝ }
+    ensures { (result.number ≡ 0) × (result.rules ≡ count / rule_width) × (result.rows ≡ p.rows) × (result.text ≡ p.text) × (result.report ≡ n ∷ n1 ∷ n1 ∷ n2 ∷ n2 ∷ n3 ∷ n3 ∷ n4 ∷ n4 ∷ n5 ∷ n5 ∷ n6 ∷ n6 ∷ p.rows ∷ []) }
 {
     let a = n as u32;
     let b = n1 as u32;
@@ -93,7 +93,7 @@ fn steps(
     requires ready { Ready rules.now rows.now text.now marks.old }
     requires at_least { AtLeast a_rules.old a_rows.old a_text.old }
     requires at_least_2 { AtLeast b_rules.old b_rows.old b_text.old }
-    ensures* { λ s. ⌜ ((t : Table Span) → Lent t rules.now rows.now → SevenAnswer s (all_seven (resolve_table text.now t)) a_rules.new a_rows.new a_text.new) ⌝ }
+    ensures { (t : Table Span) → Lent t rules.now rows.now → SevenAnswer result (all_seven (resolve_table text.now t)) a_rules.new a_rows.new a_text.new }
 {
     turns::all_steps(
         rules,
@@ -126,7 +126,7 @@ pub fn optimize(
     b_text: &mut [u8],
     marks: &mut [u32],
 ) -> Answer
-    ensures* { λ r. ⌜ seen r (lent out_rules.new out_rows.new out_text.new) ≡ optimize (lent rules.now rows.now text.now) (lent out_rules.old out_rows.old out_text.old) (lent a_rules.old a_rows.old a_text.old) (lent b_rules.old b_rows.old b_text.old) marks.old ⌝ }
+    ensures { seen result (lent out_rules.new out_rows.new out_text.new) ≡ optimize (lent rules.now rows.now text.now) (lent out_rules.old out_rows.old out_text.old) (lent a_rules.old a_rows.old a_text.old) (lent b_rules.old b_rows.old b_text.old) marks.old }
 {
     let short = admission::any_short(
         out_rules.len(),
