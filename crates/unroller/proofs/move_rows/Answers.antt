@@ -1,0 +1,35 @@
+use mathlib.Core.Path.{◌≡◌, refl, sym, subst, ◌∙◌}
+use mathlib.Core.List.{List}
+use Prim.Native.Nat.{ℕ, ◌+◌, ◌-◌, ◌*◌, ◌≤◌}
+use native.Mathlib.Omega.{arith}
+use lib.ListN.{length}
+use Rattle.grammar.specs.Numbers.{row_width}
+use Rattle.writing.specs.Writes.{stored}
+use Rattle.unroller.specs.Copies.{moved, Movable}
+use Rattle.unroller.proofs.Moves.{front_movable, move_more}
+use borrow.Author.Rules.{rules}
+use Rattle.unroller.proofs.move_rows.Goals as goal
+
+pub loop-k-init : goal.loop-k-init
+unfolding stored
+loop-k-init c = (omega arith, refl, refl)
+
+pub move_row-requires-clause-i_in_bounds : goal.move_row-requires-clause-i_in_bounds
+move_row-requires-clause-i_in_bounds c = let k = c.loop-k.k in
+    let v = c.loop-k.invariant in
+    (omega (arith, c.requires.n_bound), omega (arith, c.requires.n_bound))
+
+pub move_row-requires-clause-movable : goal.move_row-requires-clause-movable
+move_row-requires-clause-movable c = let k = c.loop-k.k in
+    let v = c.loop-k.invariant in
+    subst (λ (o : List ℕ). Movable c.args.d o (c.args.i + k)) (sym v.2) (front_movable c.args.d _ _ (c.args.i + k) c.args.j (omega arith) (c.requires.by_index k (omega arith)))
+
+pub loop-k-preserved : goal.loop-k-preserved
+loop-k-preserved c = let l = c.loop-k in
+    (omega arith, c.move_row.auto.out ∙ l.invariant.1, move_more c.args.d c.args.out.now l.out _ c.args.i c.args.j l.k (omega arith) l.invariant.2 c.move_row.ensures)
+
+pub shape_of-out : goal.shape_of-out
+shape_of-out c = c.loop-k.invariant.1
+
+pub returns : goal.returns
+returns c = let e : c.loop-k.k ≡ c.args.n = omega arith in rw (← e) c.loop-k.invariant.2
