@@ -16,7 +16,7 @@ use Rattle.rows.proofs.Views.{shape_in, found_head}
 use Rattle.writing.specs.declared.Place.{Place}
 use Rattle.writing.specs.declared.Wrote.{Wrote}
 use Rattle.writing.specs.declared.Wrote.TheVariants.{Done, Full}
-use Rattle.writing.specs.Writes.{Areas, Fits, Written, RowPut, RowAnswer, Answer}
+use Rattle.writing.specs.Writes.{Fits, Written, RowPut, RowAnswer}
 use Rattle.writing.proofs.Trees.{done_written, full_not, written_out, un_tree, fits_un}
 use Rattle.chains.specs.Runs.{wrap}
 use Rattle.skipper.specs.Memory.{by_marks}

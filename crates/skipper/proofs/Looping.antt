@@ -1,12 +1,11 @@
 -- A loop (!e ~ ANY)*: how its expression is found, and that its leaves are read as they stand after rotation. Assumes nothing.
-use mathlib.Core.Path.{◌≡◌, refl, sym, ap, ap₂, ◌∙◌, subst, fun_ext}
-use mathlib.Core.Bool.{Bool, true, false}
-use mathlib.Core.List.{List, []}
+use mathlib.Core.Path.{◌≡◌, refl, sym, ap₂, ◌∙◌, subst, fun_ext}
+use mathlib.Core.Bool.{true, false}
+use mathlib.Core.List.{List}
 use mathlib.Core.Option.{Option, none, some}
-use Prim.Native.Nat.{ℕ, ◌+◌, ◌-◌, ◌≤◌, ◌<◌}
-use native.Mathlib.Omega.{arith}
+use Prim.Native.Nat.{ℕ, ◌-◌}
 use Rattle.grammar.specs.Basic.{Bytes, ◌>>=◌, test, same_bytes}
-use Rattle.grammar.specs.Tree.{Lit, Str, Insens, Ident, Seq, Choice, Rep, NegPred, E, Expr, lit, fixed, skip, un, bin, as_seq, as_ident, as_neg_pred, as_rep, size}
+use Rattle.grammar.specs.Tree.{Ident, Seq, Choice, Rep, NegPred, E, Expr, lit, fixed, skip, un, bin, as_seq, as_ident, as_neg_pred, size}
 use Rattle.grammar.specs.Rows.{Span}
 use Rattle.grammar.specs.Text.{bytes_at, resolve}
 use Rattle.grammar.specs.Table.{Table}
@@ -16,11 +15,10 @@ use Rattle.grammar.proofs.Leaves.{read_leaves, rotated_read}
 use Rattle.rows.specs.Rows.{At}
 use Rattle.rows.proofs.Laws.{Found, root, found_size}
 use Rattle.rows.proofs.Cells.{lit_shape, bin_shape, un_shape}
-use Rattle.rows.proofs.Views.{TwoView, OneView, as_lit, as_one, as_two, lit_is, two_is, lit_some, one_some, two_some, lit_none, one_none, two_none}
+use Rattle.rows.proofs.Views.{TwoView, OneView, as_lit, as_one, as_two, lit_some, one_some, two_some, lit_none, two_none}
 use Rattle.skipper.specs.Lends.{ReadsOf}
 use Rattle.skipper.specs.Loops.{OverAt, LoopAnswer}
 use Rattle.skipper.specs.declared.Loop.{Loop}
-use Rattle.skipper.specs.declared.Loop.TheVariants.{Over, Nothing}
 
 -- the leaves, one after the other
 pub rotated_step : (l e : E) → ◌≡◌ {A = (Bytes → Reading) → Reading} (λ look. read_in look (rotate (bin Choice l e))) (λ look. and_then (read_in look (rotate l)) (read_in look (rotate e)))

@@ -1,17 +1,17 @@
 -- Laws of the memory of skip lists: a name is read once, and its mark serves from then on. Assumes nothing.
-use mathlib.Core.Path.{◌≡◌, refl, sym, ap, ◌∙◌, subst, fun_ext}
+use mathlib.Core.Path.{◌≡◌, refl, sym, ap, ◌∙◌, fun_ext}
 use mathlib.Core.Bool.{false≢true, Bool, true, false, ◌||◌, cond}
 use mathlib.Core.List.{List, [], ◌∷◌}
-use mathlib.Core.Option.{Option, none, some}
+use mathlib.Core.Option.{none, some}
 use mathlib.Core.Logic.{⊎_elim}
-use Prim.Native.Nat.{ℕ, zero, suc, ◌+◌, ◌≤◌, ◌<◌}
+use Prim.Native.Nat.{ℕ, suc, ◌+◌, ◌≤◌, ◌<◌}
 use native.Mathlib.Omega.{arith}
 use lib.ListN.{length}
 use lib.Dec.{eqb}
 use Rattle.grammar.specs.Basic.{Bytes, member, same_bytes, bytes_discrete}
 use Rattle.grammar.specs.Tree.{Lit, Str, Insens, Ident, Seq, Choice, E, lit, fixed, skip, un, bin}
 use Rattle.grammar.specs.Table.{Table, find}
-use Rattle.grammar.specs.Lists.{Reading, nothing, strings, again, and_then, read_lit, read_left, read_in, read_found, read_name, skip_list}
+use Rattle.grammar.specs.Lists.{Reading, nothing, strings, again, and_then, read_lit, read_left, read_in, read_name}
 use Rattle.grammar.proofs.Logic.{none_some, eqb_eq, same_bytes_eq, eq_same_bytes, or_case, or_left, or_right}
 use Rattle.grammar.proofs.Readings.{unopened, read_name_enough}
 use Rattle.grammar.proofs.Leaves.{read_leaves}

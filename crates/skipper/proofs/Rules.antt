@@ -1,26 +1,21 @@
 -- Marks in words: one memory is written, and which rule a name has. Assumes nothing.
-use mathlib.Core.Path.{◌≡◌, refl, sym, ap, ap₂, ◌∙◌, subst}
-use mathlib.Core.Bool.{false≢true, Bool, true, false, ◌||◌, cond}
-use mathlib.Core.List.{List, [], ◌∷◌, ◌++◌, append_assoc}
+use mathlib.Core.Path.{◌≡◌, refl, sym, ap, ap₂, ◌∙◌}
+use mathlib.Core.Bool.{Bool, true, false, cond}
+use mathlib.Core.List.{List, [], ◌∷◌}
 use mathlib.Core.Option.{Option, none, some}
-use Prim.Native.Nat.{ℕ, zero, suc, ◌+◌, ◌-◌, ◌*◌, ◌≤◌, ◌<◌}
+use Prim.Native.Nat.{ℕ, zero, suc, ◌+◌, ◌*◌, ◌≤◌, ◌<◌}
 use native.Mathlib.Nat.{add-zero}
 use native.Mathlib.Omega.{arith}
-use lib.ListN.{length, get_or, set, get_elem?, length-set, length-append}
+use lib.ListN.{length, get_or, set}
 use lib.Seq.{get_or-set_same, get_or-set_other}
 use lib.Dec.{eqb}
 use Rattle.grammar.specs.Numbers.{rule_width, row_width, mark_width}
 use Rattle.grammar.specs.Basic.{Bytes, same_bytes}
-use Rattle.grammar.specs.Tree.{E, size}
-use Rattle.grammar.specs.Rows.{Span, flat}
-use Rattle.grammar.specs.Text.{bytes_at, resolve}
-use Rattle.grammar.specs.Table.{Table, Rule, rule_words, row_words, resolve_table, find}
-use Rattle.grammar.proofs.Logic.{none_some, some_eq, eqb_self, eqb_eq, same_bytes_eq, eq_same_bytes}
-use Rattle.rows.specs.Rows.{At}
-use Rattle.rows.proofs.Laws.{size_pos, length_flat}
-use Rattle.names.proofs.Finding.{rule_words_lem}
-use Rattle.names.specs.Names.{name_of, rows_before, First, AllIndexed, Ended, memory_word, ways_word, end_word}
-use Rattle.skipper.specs.Memory.{Marks}
+use Rattle.grammar.specs.Rows.{Span}
+use Rattle.grammar.specs.Text.{bytes_at}
+use Rattle.grammar.specs.Table.{Table, Rule, rule_words, resolve_table}
+use Rattle.grammar.proofs.Logic.{none_some, some_eq, eqb_eq, same_bytes_eq, eq_same_bytes}
+use Rattle.names.specs.Names.{name_of, memory_word, ways_word, end_word}
 use Rattle.skipper.specs.Lends.{index_from, state_at, marks_of, zeros, Steady}
 use Rattle.skipper.proofs.Memories.{Sets}
 

@@ -1,21 +1,21 @@
 -- Loops that are read: one, the rows of a tree, the rules of a table. Assumes nothing.
-use mathlib.Core.Path.{◌≡◌, refl, sym, ap, ap₂, ◌∙◌, subst}
-use mathlib.Core.Bool.{false≢true, Bool, true, false, ◌&&◌, ◌||◌}
+use mathlib.Core.Path.{◌≡◌, refl, sym, ap, ap₂, ◌∙◌}
+use mathlib.Core.Bool.{false≢true, Bool, true, false, ◌||◌}
 use mathlib.Core.List.{List, [], ◌∷◌}
 use mathlib.Core.Option.{Option, none, some}
-use Prim.Native.Nat.{ℕ, ◌+◌, ◌-◌, ◌*◌, ◌≤◌, ◌<◌}
+use Prim.Native.Nat.{ℕ, ◌+◌, ◌-◌, ◌≤◌, ◌<◌}
 use native.Mathlib.Decide.{dec_le}
 use native.Mathlib.Omega.{arith}
 use lib.ListN.{length}
-use Rattle.grammar.specs.Basic.{Bytes, ◌>>=◌}
-use Rattle.grammar.specs.Tree.{Str, Rep, E, Expr, lit, fixed, skip, un, bin, as_rep, un_at, size, any_node}
+use Rattle.grammar.specs.Basic.{Bytes}
+use Rattle.grammar.specs.Tree.{Str, Rep, E, Expr, lit, fixed, skip, un, bin, as_rep, size, any_node}
 use Rattle.grammar.specs.Rows.{Span}
 use Rattle.grammar.specs.Text.{resolve}
 use Rattle.grammar.specs.Table.{Table, resolve_table}
 use Rattle.grammar.specs.Lists.{Reading, nothing, strings, again, read_in, loop_over, is_again}
 use Rattle.grammar.specs.Steps.{rotate}
 use Rattle.grammar.proofs.Logic.{or_left, or_right}
-use Rattle.rows.specs.Rows.{At, AtStrs, Stands}
+use Rattle.rows.specs.Rows.{At, AtStrs}
 use Rattle.rows.proofs.Laws.{Found, root, at_un, at_left_lem, at_right_lem, at_strs, at_first, at_others}
 use Rattle.rows.proofs.Cells.{un_shape}
 use Rattle.rows.proofs.Views.{OneView, as_one, one_some, one_none}

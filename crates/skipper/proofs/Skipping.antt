@@ -35,7 +35,6 @@ use Rattle.skipper.specs.Ways.{Spells}
 use Rattle.skipper.specs.Skips.{node_by, node_of, is_list, ListAt, ListAnswer, Settles, Rising}
 use Rattle.skipper.specs.declared.Loop.{Loop}
 use Rattle.skipper.specs.declared.Loop.TheVariants.{Over, Nothing}
-use Rattle.skipper.specs.declared.Node as node
 use Rattle.skipper.specs.declared.Node.TheVariants.{Leaf, Single, Pair}
 use Rattle.skipper.proofs.Memories.{in_mono, settled_so}
 use Rattle.skipper.proofs.Leaf.{length_table, count}

@@ -4,7 +4,7 @@ use mathlib.Core.Bool.{false≢true, Bool, true, false, cond}
 use mathlib.Core.List.{List, [], ◌∷◌}
 use mathlib.Core.Option.{Option, none, some}
 use mathlib.Core.Logic.{◌⊎◌, inl, inr, ⊎_elim}
-use Prim.Native.Nat.{ℕ, zero, suc, ◌+◌, ◌-◌, ◌*◌, ◌/◌, ◌^◌, ◌≤◌, ◌<◌}
+use Prim.Native.Nat.{ℕ, zero, suc, ◌+◌, ◌-◌, ◌*◌, ◌/◌, ◌≤◌, ◌<◌}
 use native.Mathlib.Decide.{ℕ_discrete, dec_le}
 use native.Mathlib.Omega.{arith}
 use borrow.Author.Tests.{le-leb, lt-leb, leb-true}
@@ -22,7 +22,7 @@ use Rattle.grammar.proofs.Logic.{none_some, some_eq}
 use Rattle.rows.proofs.Laws.{Found}
 use Rattle.rows.proofs.Cells.{lit_shape}
 use Rattle.rows.proofs.Views.{as_lit, lit_is}
-use Rattle.names.specs.Names.{name_of, AllIndexed, Ended, First, IsName, memory_word, end_word}
+use Rattle.names.specs.Names.{name_of, Ended, First, IsName, memory_word, end_word}
 use Rattle.skipper.specs.Memory.{mark_of, name_list, Known}
 use Rattle.skipper.specs.Lends.{index_from, state_at, marks_of, capped, lists_of, Lent}
 use Rattle.skipper.specs.Ways.{Spells, Gives, told_by, told_at, TargetsOf, Targets, Leading, Relisted}

@@ -1,0 +1,8 @@
+-- src/lib.rt:485:10
+use Rattle.rows.specs.Rows.{kind_at}
+use borrow.Author.Rules.{rules}
+use Rattle.skipper.proofs.kind_at.Goals as goal
+
+pub returns : goal.returns
+unfolding kind_at
+returns c = search rules

@@ -1,0 +1,12 @@
+use mathlib.Core.Path.{◌≡◌}
+use Prim.Native.Nat.{◌-◌, ◌/◌}
+use lib.ListN.{length}
+use Rattle.grammar.specs.Numbers.{rule_width}
+use Rattle.skipper.proofs.Ways.{Shortening}
+use Rattle.skipper.proofs.shorten.Given as goal
+
+abbrev pub invariant-loop-steps : goal.invariant-loop-steps
+invariant-loop-steps l = (l.count ≡ length l.rules / rule_width) × Shortening l.rules l.rows l.text l.initial.marks l.marks l.steps
+
+abbrev pub decreases-loop-steps : goal.decreases-loop-steps
+decreases-loop-steps l = l.count - l.steps
