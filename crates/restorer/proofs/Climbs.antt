@@ -15,7 +15,7 @@ use Rattle.rows.specs.Rows.{At, kind_at, shape_of}
 use Rattle.rows.specs.declared.Shape.TheVariants.{One}
 use Rattle.rows.proofs.Laws.{Found, root, root_found, at_un}
 use Rattle.rows.proofs.Views.{found_head, found_shape, at_unique}
-use Rattle.writing.specs.Writes.{Fits, stored}
+use Rattle.writing.specs.Writes.{Fits}
 use Rattle.writing.specs.declared.Place.{Place}
 use Rattle.writing.proofs.Runs.{length_stored}
 use Rattle.writing.proofs.Trees.{fits_un}

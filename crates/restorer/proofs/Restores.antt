@@ -23,7 +23,7 @@ use Rattle.rows.specs.declared.Shape.TheVariants.{Lit as Lits, One, Two}
 use Rattle.rows.proofs.Laws.{Found, root}
 use Rattle.rows.proofs.Cells.{lit_same}
 use Rattle.rows.proofs.Views.{TwoView, shape_in, shape_in_lem, as_lit, as_two, left_at}
-use Rattle.writing.specs.Writes.{Areas, RowAnswer, LitAnswer, Fits, Written, Answer}
+use Rattle.writing.specs.Writes.{Areas, RowAnswer, LitAnswer, Fits, Answer}
 use Rattle.writing.specs.declared.Place.{Place}
 use Rattle.writing.specs.declared.Wrote.{Wrote}
 use Rattle.writing.specs.declared.Wrote.TheVariants.{Done, Full as NoRoom}
