@@ -1,0 +1,22 @@
+-- `first_fired` meets its contract: the step leaves each rule that the loop passed as it is. Assumes nothing.
+-- rule i begins at row `begin`, and those before it are left as they are
+use mathlib.Core.Path.{◌≡◌, refl, sym, ◌∙◌, subst}
+use Prim.Native.Nat.{ℕ, ◌+◌, ◌-◌, ◌*◌, ◌/◌, ◌≤◌, ◌<◌}
+use lib.ListN.{length, get_or}
+use native.Mathlib.Omega.{arith}
+use borrow.Author.Count.{below_more}
+use borrow.Author.Tests.{not-false}
+use Rattle.grammar.specs.Numbers.{rule_width, type_word, rows_word}
+use Rattle.grammar.proofs.TopDown.{size_pos}
+use Rattle.rows.proofs.Laws.{root}
+use Rattle.names.specs.Names.{rows_before}
+use Rattle.names.proofs.Marks.{before_step}
+use Rattle.passes.specs.Passes.{Leaves, LeavesFrom}
+use Rattle.passes.proofs.Calms.{Following, following, cut}
+use Rattle.passes.proofs.first_fired.Given as goal
+
+abbrev pub invariant-loop-i : goal.invariant-loop-i
+invariant-loop-i l = (l.count ≡ length l.rules / rule_width) × (l.from ≤ l.i) × (l.i ≤ l.count) × (l.begin ≡ rows_before l.rules l.i) × LeavesFrom l.step l.rules l.rows l.text l.from l.i
+
+abbrev pub decreases-loop-i : goal.decreases-loop-i
+decreases-loop-i l = l.count - l.i

@@ -1,0 +1,19 @@
+-- `quiet` meets its contract: no row that the loop passed is rewritten. Assumes nothing.
+-- each row of the tree ends a subtree, and none before row i is rewritten
+use mathlib.Core.Bool.{false≢true}
+use Prim.Native.Nat.{ℕ, ◌+◌, ◌-◌, ◌/◌, ◌≤◌, ◌<◌}
+use lib.ListN.{length}
+use native.Mathlib.Omega.{arith}
+use borrow.Author.Count.{below_more}
+use Rattle.grammar.specs.Numbers.{row_width}
+use Rattle.rows.specs.Rows.{size_at, Stands}
+use Rattle.rows.proofs.Laws.{root}
+use Rattle.scans.proofs.Laws.{rows_stand}
+use Rattle.passes.proofs.Stills.{Quiet}
+use Rattle.passes.proofs.quiet.Given as goal
+
+abbrev pub invariant-loop-i : goal.invariant-loop-i
+invariant-loop-i l = (l.root < l.i + size_at l.rows l.root) × (l.i ≤ l.root + 1) × (l.root < length l.rows / row_width) × ((j : ℕ) → j ≤ l.root → l.root < j + size_at l.rows l.root → Stands l.rows j) × ((j : ℕ) → j < l.i → l.root < j + size_at l.rows l.root → Quiet l.step l.kind l.text l.rows j)
+
+abbrev pub decreases-loop-i : goal.decreases-loop-i
+decreases-loop-i l = l.root + 1 - l.i
