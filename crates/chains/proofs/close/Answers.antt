@@ -16,15 +16,15 @@ pub returns-in_default : goal.returns-in_default
 returns-in_default c = absurd (root_there (last_at c.requires.closable.forest) (sym c.row_at.ensures ∙ c.in_default.is))
 
 pub overflow_sub-first : goal.overflow_sub-first
-overflow_sub-first c = let right-read : Found c.args.out.now (c.args.s.rows - 1) c.in-Row.kind c.in-Row.x c.in-Row.y c.in-Row.m = row_found (sym c.row_at.ensures ∙ c.in-Row.is) in
-    omega (arith, found_size right-read (last_at c.requires.closable.forest), c.requires.closable.forest.place)
+overflow_sub-first c = let right_read : Found c.args.out.now (c.args.s.rows - 1) c.in-Row.kind c.in-Row.x c.in-Row.y c.in-Row.m = row_found (sym c.row_at.ensures ∙ c.in-Row.is) in
+    omega (arith, found_size right_read (last_at c.requires.closable.forest), c.requires.closable.forest.place)
 
 pub overflow_add-end : goal.overflow_add-end
 overflow_add-end c = omega (arith, c.requires.closable.room)
 
 pub loop-at-init : goal.loop-at-init
-loop-at-init c = let right-read : Found c.args.out.now (c.args.s.rows - 1) c.in-Row.kind c.in-Row.x c.in-Row.y c.in-Row.m = row_found (sym c.row_at.ensures ∙ c.in-Row.is) in
-    λ b before xs r e f n. turn_none f (found_size right-read (last_at f))
+loop-at-init c = let right_read : Found c.args.out.now (c.args.s.rows - 1) c.in-Row.kind c.in-Row.x c.in-Row.y c.in-Row.m = row_found (sym c.row_at.ensures ∙ c.in-Row.is) in
+    λ b before xs r e f n. turn_none f (found_size right_read (last_at f))
 
 pub overflow_sub-left : goal.overflow_sub-left
 overflow_sub-left c = first_least c.requires.bin c.requires.closable c.loop-at.invariant c.loop-at-test.true
@@ -36,8 +36,8 @@ pub returns-in_default-row_at : goal.returns-in_default-row_at
 returns-in_default-row_at c = absurd (root_there (left_at c.requires.bin c.requires.closable c.loop-at.invariant c.loop-at-test.true) (sym c.row_at-in-loop-at.ensures ∙ c.in_default-row_at.is))
 
 pub overflow_sub-first-in-loop-at : goal.overflow_sub-first-in-loop-at
-overflow_sub-first-in-loop-at c = let left-read : Found c.loop-at.out (c.loop-at.first - 1) c.in-Row-row_at.kind c.in-Row-row_at.x c.in-Row-row_at.y c.in-Row-row_at.k = row_found (sym c.row_at-in-loop-at.ensures ∙ c.in-Row-row_at.is) in
-    read_most c.requires.bin c.requires.closable c.loop-at.invariant c.loop-at-test.true left-read
+overflow_sub-first-in-loop-at c = let left_read : Found c.loop-at.out (c.loop-at.first - 1) c.in-Row-row_at.kind c.in-Row-row_at.x c.in-Row-row_at.y c.in-Row-row_at.k = row_found (sym c.row_at-in-loop-at.ensures ∙ c.in-Row-row_at.is) in
+    read_most c.requires.bin c.requires.closable c.loop-at.invariant c.loop-at-test.true left_read
 
 pub overflow_add-at : goal.overflow_add-at
 overflow_add-at c = omega (arith, c.requires.closable.room, c.loop-at-test.true)
@@ -58,8 +58,8 @@ pub loop-at-smaller : goal.loop-at-smaller
 loop-at-smaller c = omega (arith, c.loop-at-test.true)
 
 pub loop-at-preserved : goal.loop-at-preserved
-loop-at-preserved c = let left-read : Found c.loop-at.out (c.loop-at.first - 1) c.in-Row-row_at.kind c.in-Row-row_at.x c.in-Row-row_at.y c.in-Row-row_at.k = row_found (sym c.row_at-in-loop-at.ensures ∙ c.in-Row-row_at.is) in
-    turns_more c.requires.bin c.requires.closable c.loop-at.invariant c.loop-at-test.true left-read c.set_row.ensures
+loop-at-preserved c = let left_read : Found c.loop-at.out (c.loop-at.first - 1) c.in-Row-row_at.kind c.in-Row-row_at.x c.in-Row-row_at.y c.in-Row-row_at.k = row_found (sym c.row_at-in-loop-at.ensures ∙ c.in-Row-row_at.is) in
+    turns_more c.requires.bin c.requires.closable c.loop-at.invariant c.loop-at-test.true left_read c.set_row.ensures
 
 pub shape_of-out : goal.shape_of-out
 shape_of-out c = same_words c.requires.bin c.requires.closable c.loop-at.invariant

@@ -28,18 +28,18 @@ pub below-base-requires : goal.below-base-requires
 below-base-requires t c = record { tree = c.requires.ready.tree; at = c.requires.ready.at }
 
 pub forks-requires : goal.forks-requires
-forks-requires t c = let base-at : Stands c.args.rows.now c.below-base.result = record { tree = low c.requires.ready.tree; at = low_at c.requires.ready.tree c.requires.ready.at _ (c.below-base.ensures c.requires.ready.tree c.requires.ready.at) } in
-    base-at
+forks-requires t c = let base_at : Stands c.args.rows.now c.below-base.result = record { tree = low c.requires.ready.tree; at = low_at c.requires.ready.tree c.requires.ready.at _ (c.below-base.ensures c.requires.ready.tree c.requires.ready.at) } in
+    base_at
 
 pub returns-then-not-forks : goal.returns-then-not-forks
 returns-then-not-forks t c = λ r a. leaf_kept cat concat_un c.args.text.now (concat_leaf c.args.text.now) r (leaf_below _ r a (c.below-base.ensures r a) (tells_no c.if-not-forks.true c.forks.ensures)) c.keep.result _ _ _ _ _ (c.keep.ensures r a)
 
 pub left_of-requires-clause-stands : goal.left_of-requires-clause-stands
-left_of-requires-clause-stands t c = let base-at : Stands c.args.rows.now c.below-base.result = record { tree = low c.requires.ready.tree; at = low_at c.requires.ready.tree c.requires.ready.at _ (c.below-base.ensures c.requires.ready.tree c.requires.ready.at) } in
-    base-at
+left_of-requires-clause-stands t c = let base_at : Stands c.args.rows.now c.below-base.result = record { tree = low c.requires.ready.tree; at = low_at c.requires.ready.tree c.requires.ready.at _ (c.below-base.ensures c.requires.ready.tree c.requires.ready.at) } in
+    base_at
 
 pub left_of-requires-clause-i_value : goal.left_of-requires-clause-i_value
-left_of-requires-clause-i_value t c = let base-at : Stands c.args.rows.now c.below-base.result = record { tree = low c.requires.ready.tree; at = low_at c.requires.ready.tree c.requires.ready.at _ (c.below-base.ensures c.requires.ready.tree c.requires.ready.at) } in
+left_of-requires-clause-i_value t c =
     tells_yes c.if-not-forks.false c.forks.ensures
 
 pub bottom_up-requires : goal.bottom_up-requires
@@ -57,48 +57,48 @@ overflow_sub-base t c = let fork : (r : Expr Span) → At c.args.rows.now c.args
 
 pub bottom_up-requires-2 : goal.bottom_up-requires-2
 bottom_up-requires-2 t c = let fork : (r : Expr Span) → At c.args.rows.now c.args.root r → Forked c.args.rows.now c.args.text.now c.args.root c.below-base.result c.left_of.result c.args.p c.args.out.now c.args.lits.now r = λ r a. as_forked c.requires.ready (tells_yes c.if-not-forks.false c.forks.ensures) c.left_of.ensures r a (c.below-base.ensures r a) in
-    let left-kept : (r : Expr Span) (a : At c.args.rows.now c.args.root r) → Kept c.ended-q.result c.args.p (cat (resolve c.args.text.now (fork r a).view.left)) c.args.out.now c.bottom_up.new.out c.args.lits.now c.bottom_up.new.lits = λ r a. let f = fork r a in kept_done _ _ _ _ _ _ c.ended-q.ensures (c.bottom_up.ensures f.view.left f.at_left) in
+    let left_kept : (r : Expr Span) (a : At c.args.rows.now c.args.root r) → Kept c.ended-q.result c.args.p (cat (resolve c.args.text.now (fork r a).view.left)) c.args.out.now c.bottom_up.new.out c.args.lits.now c.bottom_up.new.lits = λ r a. let f = fork r a in kept_done _ _ _ _ _ _ c.ended-q.ensures (c.bottom_up.ensures f.view.left f.at_left) in
     let f = fork c.requires.ready.tree c.requires.ready.at in
-    (omega (arith, c.decreases, f.right_falls), (c.requires.inside, (right_ready c.args.text.now f.view (left-kept c.requires.ready.tree c.requires.ready.at) c.bottom_up.auto.out c.bottom_up.auto.lits f.fits, same_areas c.requires.areas c.bottom_up.auto.out c.bottom_up.auto.lits)))
+    (omega (arith, c.decreases, f.right_falls), (c.requires.inside, (right_ready c.args.text.now f.view (left_kept c.requires.ready.tree c.requires.ready.at) c.bottom_up.auto.out c.bottom_up.auto.lits f.fits, same_areas c.requires.areas c.bottom_up.auto.out c.bottom_up.auto.lits)))
 
 pub ended-s-requires : goal.ended-s-requires
 ended-s-requires t c = let fork : (r : Expr Span) → At c.args.rows.now c.args.root r → Forked c.args.rows.now c.args.text.now c.args.root c.below-base.result c.left_of.result c.args.p c.args.out.now c.args.lits.now r = λ r a. as_forked c.requires.ready (tells_yes c.if-not-forks.false c.forks.ensures) c.left_of.ensures r a (c.below-base.ensures r a) in
     λ e. let v = (fork c.requires.ready.tree c.requires.ready.at).view in kept_full _ _ _ _ _ _ e (c.bottom_up-2.ensures v.right v.at_right)
 
 pub overflow_mul-base : goal.overflow_mul-base
-overflow_mul-base t c = let base-at : Stands c.args.rows.now c.below-base.result = record { tree = low c.requires.ready.tree; at = low_at c.requires.ready.tree c.requires.ready.at _ (c.below-base.ensures c.requires.ready.tree c.requires.ready.at) } in
-    omega (arith, (root base-at.at).inside, c.well_formed.0)
+overflow_mul-base t c = let base_at : Stands c.args.rows.now c.below-base.result = record { tree = low c.requires.ready.tree; at = low_at c.requires.ready.tree c.requires.ready.at _ (c.below-base.ensures c.requires.ready.tree c.requires.ready.at) } in
+    omega (arith, (root base_at.at).inside, c.well_formed.0)
 
 pub offset_bounds-rows-base : goal.offset_bounds-rows-base
-offset_bounds-rows-base t c = let base-at : Stands c.args.rows.now c.below-base.result = record { tree = low c.requires.ready.tree; at = low_at c.requires.ready.tree c.requires.ready.at _ (c.below-base.ensures c.requires.ready.tree c.requires.ready.at) } in
-    omega (arith, (root base-at.at).inside, c.well_formed.0)
+offset_bounds-rows-base t c = let base_at : Stands c.args.rows.now c.below-base.result = record { tree = low c.requires.ready.tree; at = low_at c.requires.ready.tree c.requires.ready.at _ (c.below-base.ensures c.requires.ready.tree c.requires.ready.at) } in
+    omega (arith, (root base_at.at).inside, c.well_formed.0)
 
 pub bounds-rows-base : goal.bounds-rows-base
-bounds-rows-base t c = let base-at : Stands c.args.rows.now c.below-base.result = record { tree = low c.requires.ready.tree; at = low_at c.requires.ready.tree c.requires.ready.at _ (c.below-base.ensures c.requires.ready.tree c.requires.ready.at) } in
-    omega (arith, (root base-at.at).inside)
+bounds-rows-base t c = let base_at : Stands c.args.rows.now c.below-base.result = record { tree = low c.requires.ready.tree; at = low_at c.requires.ready.tree c.requires.ready.at _ (c.below-base.ensures c.requires.ready.tree c.requires.ready.at) } in
+    omega (arith, (root base_at.at).inside)
 
 pub finish-requires : goal.finish-requires
 finish-requires t c = let fork : (r : Expr Span) → At c.args.rows.now c.args.root r → Forked c.args.rows.now c.args.text.now c.args.root c.below-base.result c.left_of.result c.args.p c.args.out.now c.args.lits.now r = λ r a. as_forked c.requires.ready (tells_yes c.if-not-forks.false c.forks.ensures) c.left_of.ensures r a (c.below-base.ensures r a) in
-    let left-kept : (r : Expr Span) (a : At c.args.rows.now c.args.root r) → Kept c.ended-q.result c.args.p (cat (resolve c.args.text.now (fork r a).view.left)) c.args.out.now c.bottom_up.new.out c.args.lits.now c.bottom_up.new.lits = λ r a. let f = fork r a in kept_done _ _ _ _ _ _ c.ended-q.ensures (c.bottom_up.ensures f.view.left f.at_left) in
+    let left_kept : (r : Expr Span) (a : At c.args.rows.now c.args.root r) → Kept c.ended-q.result c.args.p (cat (resolve c.args.text.now (fork r a).view.left)) c.args.out.now c.bottom_up.new.out c.args.lits.now c.bottom_up.new.lits = λ r a. let f = fork r a in kept_done _ _ _ _ _ _ c.ended-q.ensures (c.bottom_up.ensures f.view.left f.at_left) in
     let right_kept : (r : Expr Span) (a : At c.args.rows.now c.args.root r) → Kept c.ended-s.result c.ended-q.result (cat (resolve c.args.text.now (fork r a).view.right)) c.bottom_up.new.out c.bottom_up-2.new.out c.bottom_up.new.lits c.bottom_up-2.new.lits = λ r a. let v = (fork r a).view in kept_done _ _ _ _ _ _ c.ended-s.ensures (c.bottom_up-2.ensures v.right v.at_right) in
-    let f = fork c.requires.ready.tree c.requires.ready.at in two_order c.args.text.now f.view (left-kept c.requires.ready.tree c.requires.ready.at) c.bottom_up.auto.out c.bottom_up.auto.lits f.fits (right_kept c.requires.ready.tree c.requires.ready.at) c.bottom_up-2.auto.out c.requires.areas
+    let f = fork c.requires.ready.tree c.requires.ready.at in two_order c.args.text.now f.view (left_kept c.requires.ready.tree c.requires.ready.at) c.bottom_up.auto.out c.bottom_up.auto.lits f.fits (right_kept c.requires.ready.tree c.requires.ready.at) c.bottom_up-2.auto.out c.requires.areas
 
 pub ended-e-requires : goal.ended-e-requires
 unfolding kind_at
 ended-e-requires t c = let fork : (r : Expr Span) → At c.args.rows.now c.args.root r → Forked c.args.rows.now c.args.text.now c.args.root c.below-base.result c.left_of.result c.args.p c.args.out.now c.args.lits.now r = λ r a. as_forked c.requires.ready (tells_yes c.if-not-forks.false c.forks.ensures) c.left_of.ensures r a (c.below-base.ensures r a) in
-    let left-kept : (r : Expr Span) (a : At c.args.rows.now c.args.root r) → Kept c.ended-q.result c.args.p (cat (resolve c.args.text.now (fork r a).view.left)) c.args.out.now c.bottom_up.new.out c.args.lits.now c.bottom_up.new.lits = λ r a. let f = fork r a in kept_done _ _ _ _ _ _ c.ended-q.ensures (c.bottom_up.ensures f.view.left f.at_left) in
+    let left_kept : (r : Expr Span) (a : At c.args.rows.now c.args.root r) → Kept c.ended-q.result c.args.p (cat (resolve c.args.text.now (fork r a).view.left)) c.args.out.now c.bottom_up.new.out c.args.lits.now c.bottom_up.new.lits = λ r a. let f = fork r a in kept_done _ _ _ _ _ _ c.ended-q.ensures (c.bottom_up.ensures f.view.left f.at_left) in
     let right_kept : (r : Expr Span) (a : At c.args.rows.now c.args.root r) → Kept c.ended-s.result c.ended-q.result (cat (resolve c.args.text.now (fork r a).view.right)) c.bottom_up.new.out c.bottom_up-2.new.out c.bottom_up.new.lits c.bottom_up-2.new.lits = λ r a. let v = (fork r a).view in kept_done _ _ _ _ _ _ c.ended-s.ensures (c.bottom_up-2.ensures v.right v.at_right) in
     let answer : (r : Expr Span) (a : At c.args.rows.now c.args.root r) → KeptAnswer c.finish.result c.args.p (cat (resolve c.args.text.now (low r))) c.args.out.now c.finish.new.out c.args.lits.now c.bottom_up-2.new.lits = λ r a. let f = fork r a in
-    two_kept c.args.text.now f.view (left-kept r a) c.bottom_up.auto.out c.bottom_up.auto.lits f.fits (right_kept r a) c.bottom_up-2.auto.out c.finish.result c.finish.new.out c.finish.ensures in
+    two_kept c.args.text.now f.view (left_kept r a) c.bottom_up.auto.out c.bottom_up.auto.lits f.fits (right_kept r a) c.bottom_up-2.auto.out c.finish.result c.finish.new.out c.finish.ensures in
     λ e. kept_full _ _ _ _ _ _ e (answer c.requires.ready.tree c.requires.ready.at)
 
 pub raise-requires : goal.raise-requires
 unfolding kind_at
 raise-requires t c = let fork : (r : Expr Span) → At c.args.rows.now c.args.root r → Forked c.args.rows.now c.args.text.now c.args.root c.below-base.result c.left_of.result c.args.p c.args.out.now c.args.lits.now r = λ r a. as_forked c.requires.ready (tells_yes c.if-not-forks.false c.forks.ensures) c.left_of.ensures r a (c.below-base.ensures r a) in
-    let left-kept : (r : Expr Span) (a : At c.args.rows.now c.args.root r) → Kept c.ended-q.result c.args.p (cat (resolve c.args.text.now (fork r a).view.left)) c.args.out.now c.bottom_up.new.out c.args.lits.now c.bottom_up.new.lits = λ r a. let f = fork r a in kept_done _ _ _ _ _ _ c.ended-q.ensures (c.bottom_up.ensures f.view.left f.at_left) in
+    let left_kept : (r : Expr Span) (a : At c.args.rows.now c.args.root r) → Kept c.ended-q.result c.args.p (cat (resolve c.args.text.now (fork r a).view.left)) c.args.out.now c.bottom_up.new.out c.args.lits.now c.bottom_up.new.lits = λ r a. let f = fork r a in kept_done _ _ _ _ _ _ c.ended-q.ensures (c.bottom_up.ensures f.view.left f.at_left) in
     let right_kept : (r : Expr Span) (a : At c.args.rows.now c.args.root r) → Kept c.ended-s.result c.ended-q.result (cat (resolve c.args.text.now (fork r a).view.right)) c.bottom_up.new.out c.bottom_up-2.new.out c.bottom_up.new.lits c.bottom_up-2.new.lits = λ r a. let v = (fork r a).view in kept_done _ _ _ _ _ _ c.ended-s.ensures (c.bottom_up-2.ensures v.right v.at_right) in
     let answer : (r : Expr Span) (a : At c.args.rows.now c.args.root r) → KeptAnswer c.finish.result c.args.p (cat (resolve c.args.text.now (low r))) c.args.out.now c.finish.new.out c.args.lits.now c.bottom_up-2.new.lits = λ r a. let f = fork r a in
-    two_kept c.args.text.now f.view (left-kept r a) c.bottom_up.auto.out c.bottom_up.auto.lits f.fits (right_kept r a) c.bottom_up-2.auto.out c.finish.result c.finish.new.out c.finish.ensures in
+    two_kept c.args.text.now f.view (left_kept r a) c.bottom_up.auto.out c.bottom_up.auto.lits f.fits (right_kept r a) c.bottom_up-2.auto.out c.finish.result c.finish.new.out c.finish.ensures in
     let node_kept : (r : Expr Span) (a : At c.args.rows.now c.args.root r) → Kept c.ended-e.result c.args.p (cat (resolve c.args.text.now (low r))) c.args.out.now c.finish.new.out c.args.lits.now c.bottom_up-2.new.lits = λ r a. kept_done _ _ _ _ _ _ c.ended-e.ensures (answer r a) in
     let out_same : length c.finish.new.out ≡ length c.args.out.now = c.finish.auto.out ∙ c.bottom_up-2.auto.out ∙ c.bottom_up.auto.out in
     run_raisable cat concat_un c.args.text.now c.requires.ready.tree (node_kept c.requires.ready.tree c.requires.ready.at) (concat_size _) _ c.requires.ready.at (c.below-base.ensures c.requires.ready.tree c.requires.ready.at) c.requires.ready.fits out_same c.requires.areas.words
@@ -113,9 +113,9 @@ shape_of-lits t c = c.bottom_up-2.auto.lits ∙ c.bottom_up.auto.lits
 pub returns : goal.returns
 unfolding kind_at
 returns t c = let fork : (r : Expr Span) → At c.args.rows.now c.args.root r → Forked c.args.rows.now c.args.text.now c.args.root c.below-base.result c.left_of.result c.args.p c.args.out.now c.args.lits.now r = λ r a. as_forked c.requires.ready (tells_yes c.if-not-forks.false c.forks.ensures) c.left_of.ensures r a (c.below-base.ensures r a) in
-    let left-kept : (r : Expr Span) (a : At c.args.rows.now c.args.root r) → Kept c.ended-q.result c.args.p (cat (resolve c.args.text.now (fork r a).view.left)) c.args.out.now c.bottom_up.new.out c.args.lits.now c.bottom_up.new.lits = λ r a. let f = fork r a in kept_done _ _ _ _ _ _ c.ended-q.ensures (c.bottom_up.ensures f.view.left f.at_left) in
+    let left_kept : (r : Expr Span) (a : At c.args.rows.now c.args.root r) → Kept c.ended-q.result c.args.p (cat (resolve c.args.text.now (fork r a).view.left)) c.args.out.now c.bottom_up.new.out c.args.lits.now c.bottom_up.new.lits = λ r a. let f = fork r a in kept_done _ _ _ _ _ _ c.ended-q.ensures (c.bottom_up.ensures f.view.left f.at_left) in
     let right_kept : (r : Expr Span) (a : At c.args.rows.now c.args.root r) → Kept c.ended-s.result c.ended-q.result (cat (resolve c.args.text.now (fork r a).view.right)) c.bottom_up.new.out c.bottom_up-2.new.out c.bottom_up.new.lits c.bottom_up-2.new.lits = λ r a. let v = (fork r a).view in kept_done _ _ _ _ _ _ c.ended-s.ensures (c.bottom_up-2.ensures v.right v.at_right) in
     let answer : (r : Expr Span) (a : At c.args.rows.now c.args.root r) → KeptAnswer c.finish.result c.args.p (cat (resolve c.args.text.now (low r))) c.args.out.now c.finish.new.out c.args.lits.now c.bottom_up-2.new.lits = λ r a. let f = fork r a in
-    two_kept c.args.text.now f.view (left-kept r a) c.bottom_up.auto.out c.bottom_up.auto.lits f.fits (right_kept r a) c.bottom_up-2.auto.out c.finish.result c.finish.new.out c.finish.ensures in
+    two_kept c.args.text.now f.view (left_kept r a) c.bottom_up.auto.out c.bottom_up.auto.lits f.fits (right_kept r a) c.bottom_up-2.auto.out c.finish.result c.finish.new.out c.finish.ensures in
     let node_kept : (r : Expr Span) (a : At c.args.rows.now c.args.root r) → Kept c.ended-e.result c.args.p (cat (resolve c.args.text.now (low r))) c.args.out.now c.finish.new.out c.args.lits.now c.bottom_up-2.new.lits = λ r a. kept_done _ _ _ _ _ _ c.ended-e.ensures (answer r a) in
     λ r a. run_kept cat concat_un c.args.text.now r (node_kept r a) c.raise.result c.raise.new.out (c.raise.ensures r a)

@@ -16,10 +16,10 @@ returns-in_default-row_at c = absurd (row_there _ _ (omega arith) (sym c.row_at-
 
 pub returns-then-joins : goal.returns-then-joins
 returns-then-joins c = let first_read : Found c.args.out.now (c.args.q.rows - 1) c.in-Row.a c.in-Row.x c.in-Row.y c.in-Row.size = row_found (sym c.row_at.ensures ∙ c.in-Row.is) in
-    let second-read : Found c.args.out.now (c.args.s.rows - 1) c.in-Row-row_at.b c.in-Row-row_at.x c.in-Row-row_at.y c.in-Row-row_at.size = row_found (sym c.row_at-2.ensures ∙ c.in-Row-row_at.is) in
-    ends_lit_lem first_read second-read c.args.kind c.joins.ensures _ _ _ _ c.if-joins.true (record { rows = refl; text = refl; words = c.set_row.ensures })
+    let second_read : Found c.args.out.now (c.args.s.rows - 1) c.in-Row-row_at.b c.in-Row-row_at.x c.in-Row-row_at.y c.in-Row-row_at.size = row_found (sym c.row_at-2.ensures ∙ c.in-Row-row_at.is) in
+    ends_lit_lem first_read second_read c.args.kind c.joins.ensures _ _ _ _ c.if-joins.true (record { rows = refl; text = refl; words = c.set_row.ensures })
 
 pub returns-else-joins : goal.returns-else-joins
 returns-else-joins c = let first_read : Found c.args.out.now (c.args.q.rows - 1) c.in-Row.a c.in-Row.x c.in-Row.y c.in-Row.size = row_found (sym c.row_at.ensures ∙ c.in-Row.is) in
-    let second-read : Found c.args.out.now (c.args.s.rows - 1) c.in-Row-row_at.b c.in-Row-row_at.x c.in-Row-row_at.y c.in-Row-row_at.size = row_found (sym c.row_at-2.ensures ∙ c.in-Row-row_at.is) in
-    ends_row first_read second-read c.args.kind c.joins.ensures _ _ _ _ c.if-joins.false (record { rows = refl; text = refl; words = c.set_row-else-joins.ensures })
+    let second_read : Found c.args.out.now (c.args.s.rows - 1) c.in-Row-row_at.b c.in-Row-row_at.x c.in-Row-row_at.y c.in-Row-row_at.size = row_found (sym c.row_at-2.ensures ∙ c.in-Row-row_at.is) in
+    ends_row first_read second_read c.args.kind c.joins.ensures _ _ _ _ c.if-joins.false (record { rows = refl; text = refl; words = c.set_row-else-joins.ensures })

@@ -22,13 +22,12 @@ returns-then-kind_at-ne-REP c = let inside : c.args.row < rows_before c.args.rul
     plain_told _ c.plain-then-kind_at-ne-REP.ensures ∙ ap (λ (w : Answer). answer_told w c.args.list.now) (sym (no_rep l h c.args.text.now (row_stands l h).at (λ e. c.if-kind_at-ne-REP.true (c.kind_at.ensures ∙ e))))
 
 pub rule_of-i-requires-clause-ended : goal.rule_of-i-requires-clause-ended
-rule_of-i-requires-clause-ended c = let inside : c.args.row < rows_before c.args.rules.now (length c.args.rules.now / rule_width) = omega (arith, c.if-row-rows.false, all_rows c.requires.ready.given.lent) in
+rule_of-i-requires-clause-ended c =
     let g = c.requires.ready.given in
     (g.ended, g.index.long)
 
 pub rule_of-i-requires-clause-row_bound : goal.rule_of-i-requires-clause-row_bound
 rule_of-i-requires-clause-row_bound c = let inside : c.args.row < rows_before c.args.rules.now (length c.args.rules.now / rule_width) = omega (arith, c.if-row-rows.false, all_rows c.requires.ready.given.lent) in
-    let g = c.requires.ready.given in
     inside
 
 pub nested-requires : goal.nested-requires
@@ -39,10 +38,10 @@ nested-requires c = let site : Sited c.args.rules.now (length c.args.rules.now /
 pub returns-then-nested : goal.returns-then-nested
 returns-then-nested c = let site : Sited c.args.rules.now (length c.args.rules.now / rule_width) c.args.row = record { rule = c.rule_of-i.result; below = c.rule_of-i.ensures.0; low = c.rule_of-i.ensures.1; high = c.rule_of-i.ensures.2 } in
     let stands : Stands c.args.rows.now c.args.row = row_stands c.requires.ready.given.lent site in
-    let is-rep : kind_at c.args.rows.now c.args.row ≡ 11 = sym c.kind_at.ensures ∙ c.if-kind_at-ne-REP.false in
+    let is_rep : kind_at c.args.rows.now c.args.row ≡ 11 = sym c.kind_at.ensures ∙ c.if-kind_at-ne-REP.false in
     λ t l.
     let a = stands.at in
-    plain_told _ c.plain-then-nested.ensures ∙ ap (λ (w : Answer). answer_told w c.args.list.now) (sym (nests l site c.args.text.now a is-rep (sym (c.nested.ensures c.args.text.now _ a) ∙ c.if-nested.true)))
+    plain_told _ c.plain-then-nested.ensures ∙ ap (λ (w : Answer). answer_told w c.args.list.now) (sym (nests l site c.args.text.now a is_rep (sym (c.nested.ensures c.args.text.now _ a) ∙ c.if-nested.true)))
 
 pub overflow_mul-i : goal.overflow_mul-i
 overflow_mul-i c = let site : Sited c.args.rules.now (length c.args.rules.now / rule_width) c.args.row = record { rule = c.rule_of-i.result; below = c.rule_of-i.ensures.0; low = c.rule_of-i.ensures.1; high = c.rule_of-i.ensures.2 } in
@@ -63,29 +62,27 @@ bounds-rules-i c = let site : Sited c.args.rules.now (length c.args.rules.now / 
 pub returns-then-rules-i-ne-ATOMIC : goal.returns-then-rules-i-ne-ATOMIC
 returns-then-rules-i-ne-ATOMIC c = let site : Sited c.args.rules.now (length c.args.rules.now / rule_width) c.args.row = record { rule = c.rule_of-i.result; below = c.rule_of-i.ensures.0; low = c.rule_of-i.ensures.1; high = c.rule_of-i.ensures.2 } in
     let stands : Stands c.args.rows.now c.args.row = row_stands c.requires.ready.given.lent site in
-    let is-rep : kind_at c.args.rows.now c.args.row ≡ 11 = sym c.kind_at.ensures ∙ c.if-kind_at-ne-REP.false in
+    let is_rep : kind_at c.args.rows.now c.args.row ≡ 11 = sym c.kind_at.ensures ∙ c.if-kind_at-ne-REP.false in
     λ t l.
     let a = stands.at in
-    plain_told _ c.plain-then-rules-i-ne-ATOMIC.ensures ∙ ap (λ (w : Answer). answer_told w c.args.list.now) (sym (not_atomic_lem l site c.args.text.now a is-rep (sym (c.nested.ensures c.args.text.now _ a) ∙ c.if-nested.false) c.if-rules-i-ne-ATOMIC.true))
+    plain_told _ c.plain-then-rules-i-ne-ATOMIC.ensures ∙ ap (λ (w : Answer). answer_told w c.args.list.now) (sym (not_atomic_lem l site c.args.text.now a is_rep (sym (c.nested.ensures c.args.text.now _ a) ∙ c.if-nested.false) c.if-rules-i-ne-ATOMIC.true))
 
 pub read_loop-requires-clause-fresh : goal.read_loop-requires-clause-fresh
-read_loop-requires-clause-fresh c = let site : Sited c.args.rules.now (length c.args.rules.now / rule_width) c.args.row = record { rule = c.rule_of-i.result; below = c.rule_of-i.ensures.0; low = c.rule_of-i.ensures.1; high = c.rule_of-i.ensures.2 } in
-    let stands : Stands c.args.rows.now c.args.row = row_stands c.requires.ready.given.lent site in
-    let is-rep : kind_at c.args.rows.now c.args.row ≡ 11 = sym c.kind_at.ensures ∙ c.if-kind_at-ne-REP.false in
+read_loop-requires-clause-fresh c =
     c.requires
 
 pub read_loop-requires-clause-stands : goal.read_loop-requires-clause-stands
 read_loop-requires-clause-stands c = let site : Sited c.args.rules.now (length c.args.rules.now / rule_width) c.args.row = record { rule = c.rule_of-i.result; below = c.rule_of-i.ensures.0; low = c.rule_of-i.ensures.1; high = c.rule_of-i.ensures.2 } in
     let stands : Stands c.args.rows.now c.args.row = row_stands c.requires.ready.given.lent site in
-    let is-rep : kind_at c.args.rows.now c.args.row ≡ 11 = sym c.kind_at.ensures ∙ c.if-kind_at-ne-REP.false in
-    (stands, is-rep, site.below)
+    let is_rep : kind_at c.args.rows.now c.args.row ≡ 11 = sym c.kind_at.ensures ∙ c.if-kind_at-ne-REP.false in
+    (stands, is_rep, site.below)
 
 pub returns : goal.returns
 returns c = let site : Sited c.args.rules.now (length c.args.rules.now / rule_width) c.args.row = record { rule = c.rule_of-i.result; below = c.rule_of-i.ensures.0; low = c.rule_of-i.ensures.1; high = c.rule_of-i.ensures.2 } in
     let stands : Stands c.args.rows.now c.args.row = row_stands c.requires.ready.given.lent site in
-    let is-rep : kind_at c.args.rows.now c.args.row ≡ 11 = sym c.kind_at.ensures ∙ c.if-kind_at-ne-REP.false in
+    let is_rep : kind_at c.args.rows.now c.args.row ≡ 11 = sym c.kind_at.ensures ∙ c.if-kind_at-ne-REP.false in
     λ t l.
     let a = stands.at in
     let h = site in
-    c.read_loop.ensures t _ _ l a (rep_some l h c.args.text.now a is-rep)
-    ∙ ap (λ (w : Answer). answer_told w c.args.list.now) (sym (atomic l h c.args.text.now a is-rep (sym (c.nested.ensures c.args.text.now _ a) ∙ c.if-nested.false) c.if-rules-i-ne-ATOMIC.false))
+    c.read_loop.ensures t _ _ l a (rep_some l h c.args.text.now a is_rep)
+    ∙ ap (λ (w : Answer). answer_told w c.args.list.now) (sym (atomic l h c.args.text.now a is_rep (sym (c.nested.ensures c.args.text.now _ a) ∙ c.if-nested.false) c.if-rules-i-ne-ATOMIC.false))

@@ -24,13 +24,12 @@ pub kind_at-requires : goal.kind_at-requires
 kind_at-requires c = (root (rep c.args.text.now c.requires.stands.0.at c.requires.stands.1).at).inside
 
 pub left_of-left-requires-clause-stands : goal.left_of-left-requires-clause-stands
-left_of-left-requires-clause-stands c = let is_seq : kind_at c.args.rows.now (c.args.row - 1) ≡ 8 = sym c.kind_at.ensures ∙ c.if-kind_at-ne-SEQ.false in
+left_of-left-requires-clause-stands c =
     let v = rep c.args.text.now c.requires.stands.0.at c.requires.stands.1 in
     record { tree = v.child; at = v.at }
 
 pub left_of-left-requires-clause-i_value : goal.left_of-left-requires-clause-i_value
 left_of-left-requires-clause-i_value c = let is_seq : kind_at c.args.rows.now (c.args.row - 1) ≡ 8 = sym c.kind_at.ensures ∙ c.if-kind_at-ne-SEQ.false in
-    let v = rep c.args.text.now c.requires.stands.0.at c.requires.stands.1 in
     ap (λ (n : ℕ). n / 2) is_seq
 
 pub kind_at-requires-2 : goal.kind_at-requires-2
@@ -51,9 +50,7 @@ overflow_sub-left c = let is_seq : kind_at c.args.rows.now (c.args.row - 1) ≡ 
     let v = neg c.args.text.now c.requires.stands.0.at c.requires.stands.1 is_seq c.left_of-left.ensures is-not in omega (arith, v.least, v.most)
 
 pub read_in-requires-clause-ready : goal.read_in-requires-clause-ready
-read_in-requires-clause-ready c = let is_seq : kind_at c.args.rows.now (c.args.row - 1) ≡ 8 = sym c.kind_at.ensures ∙ c.if-kind_at-ne-SEQ.false in
-    let is-not : kind_at c.args.rows.now c.left_of-left.result ≡ 7 = sym c.kind_at-2.ensures ∙ c.if-kind_at-ne-NEG_PRED.false in
-    let v = neg c.args.text.now c.requires.stands.0.at c.requires.stands.1 is_seq c.left_of-left.ensures is-not in
+read_in-requires-clause-ready c =
     c.requires.fresh.ready
 
 pub read_in-requires-clause-stands : goal.read_in-requires-clause-stands

@@ -10,13 +10,11 @@ pub same_tree-requires-clause-stands_in : goal.same_tree-requires-clause-stands_
 same_tree-requires-clause-stands_in c = let t = c.args.text.now in
     let w = c.args.rows.now in
     let l = told_split w t _ c.in-Split.is (c.split-left.ensures t c.requires.stands.tree c.requires.stands.at) in
-    let r = told_split w t _ c.in-Split-right.is (c.split-right.ensures t c.requires.stands_2.tree c.requires.stands_2.at) in
     stands_in c.requires.inside l.at_head
 
 pub same_tree-requires-clause-stands_in_2 : goal.same_tree-requires-clause-stands_in_2
 same_tree-requires-clause-stands_in_2 c = let t = c.args.text.now in
     let w = c.args.rows.now in
-    let l = told_split w t _ c.in-Split.is (c.split-left.ensures t c.requires.stands.tree c.requires.stands.at) in
     let r = told_split w t _ c.in-Split-right.is (c.split-right.ensures t c.requires.stands_2.tree c.requires.stands_2.at) in
     stands_in c.requires.inside r.at_head
 
@@ -32,15 +30,11 @@ same_tree-requires-in-Other-right-clause-stands_in c = let t = c.args.text.now i
     stands_in c.requires.inside l.at_head
 
 pub same_tree-requires-in-Other-right-clause-stands_in_2 : goal.same_tree-requires-in-Other-right-clause-stands_in_2
-same_tree-requires-in-Other-right-clause-stands_in_2 c = let t = c.args.text.now in
-    let w = c.args.rows.now in
-    let l = told_split w t _ c.in-Split.is (c.split-left.ensures t c.requires.stands.tree c.requires.stands.at) in
+same_tree-requires-in-Other-right-clause-stands_in_2 c =
     stands_in c.requires.inside c.requires.stands_2.at
 
 pub same_tree-requires-in-Split-right-2-clause-stands_in : goal.same_tree-requires-in-Split-right-2-clause-stands_in
-same_tree-requires-in-Split-right-2-clause-stands_in c = let t = c.args.text.now in
-    let w = c.args.rows.now in
-    let r = told_split w t _ c.in-Split-right-2.is (c.split-right.ensures t c.requires.stands_2.tree c.requires.stands_2.at) in
+same_tree-requires-in-Split-right-2-clause-stands_in c =
     stands_in c.requires.inside c.requires.stands.at
 
 pub same_tree-requires-in-Split-right-2-clause-stands_in_2 : goal.same_tree-requires-in-Split-right-2-clause-stands_in_2

@@ -61,9 +61,7 @@ returns-then-rows-right-ne-SEQ c = let sides : (x : Expr Span) → At c.args.row
     λ e x a. let v = sides x a in choice_idle _ _ v.is (plain_other c.args.tight c.args.rows.now c.args.text.now v.left v.right (two_none _ 8 (found_row _ _ (root v.at_left).inside) v.at_left c.if-rows-left-ne-SEQ.true) (two_none _ 8 (found_row _ _ (root v.at_right).inside) v.at_right c.if-rows-right-ne-SEQ.true))
 
 pub case_of-requires-clause-inside : goal.case_of-requires-clause-inside
-case_of-requires-clause-inside c = let sides : (x : Expr Span) → At c.args.rows.now c.args.i x → SidesAt Choice c.args.rows.now c.args.i c.left_of-left.result x = λ x a. sides_at Choice a c.requires.i_value c.left_of-left.ensures in
-    let here : SidesAt Choice c.args.rows.now c.args.i c.left_of-left.result c.requires.stands.tree = sides _ c.requires.stands.at in
-    let v = here in
+case_of-requires-clause-inside c =
     c.requires.inside
 
 pub case_of-requires-clause-stands : goal.case_of-requires-clause-stands

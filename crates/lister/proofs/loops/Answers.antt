@@ -26,65 +26,60 @@ returns-then-rows-i-ne-REP c = λ l r a b. no_rep a _ c.if-rows-i-ne-REP.true
 
 pub overflow_sub-body : goal.overflow_sub-body
 unfolding kind_at
-overflow_sub-body c = let rep-of : (l : Expr Span) → At c.args.rows.now c.args.i l → RepOf c.args.rows.now c.args.i l = λ l a. as_rep_lem a c.if-rows-i-ne-REP.false in
-    let here : RepOf c.args.rows.now c.args.i c.requires.stands_in.tree = rep-of _ c.requires.stands_in.at in
+overflow_sub-body c = let rep_of : (l : Expr Span) → At c.args.rows.now c.args.i l → RepOf c.args.rows.now c.args.i l = λ l a. as_rep_lem a c.if-rows-i-ne-REP.false in
+    let here : RepOf c.args.rows.now c.args.i c.requires.stands_in.tree = rep_of _ c.requires.stands_in.at in
     let v = here in omega (arith, v.least, v.most)
 
 pub overflow_mul-body : goal.overflow_mul-body
 unfolding kind_at
-overflow_mul-body c = let rep-of : (l : Expr Span) → At c.args.rows.now c.args.i l → RepOf c.args.rows.now c.args.i l = λ l a. as_rep_lem a c.if-rows-i-ne-REP.false in
-    let here : RepOf c.args.rows.now c.args.i c.requires.stands_in.tree = rep-of _ c.requires.stands_in.at in
+overflow_mul-body c = let rep_of : (l : Expr Span) → At c.args.rows.now c.args.i l → RepOf c.args.rows.now c.args.i l = λ l a. as_rep_lem a c.if-rows-i-ne-REP.false in
+    let here : RepOf c.args.rows.now c.args.i c.requires.stands_in.tree = rep_of _ c.requires.stands_in.at in
     omega (arith, (root here.at).inside)
 
 pub offset_bounds-rows-body : goal.offset_bounds-rows-body
 unfolding kind_at
-offset_bounds-rows-body c = let rep-of : (l : Expr Span) → At c.args.rows.now c.args.i l → RepOf c.args.rows.now c.args.i l = λ l a. as_rep_lem a c.if-rows-i-ne-REP.false in
-    let here : RepOf c.args.rows.now c.args.i c.requires.stands_in.tree = rep-of _ c.requires.stands_in.at in
+offset_bounds-rows-body c = let rep_of : (l : Expr Span) → At c.args.rows.now c.args.i l → RepOf c.args.rows.now c.args.i l = λ l a. as_rep_lem a c.if-rows-i-ne-REP.false in
+    let here : RepOf c.args.rows.now c.args.i c.requires.stands_in.tree = rep_of _ c.requires.stands_in.at in
     omega (arith, (root here.at).inside)
 
 pub bounds-rows-body : goal.bounds-rows-body
 unfolding kind_at
-bounds-rows-body c = let rep-of : (l : Expr Span) → At c.args.rows.now c.args.i l → RepOf c.args.rows.now c.args.i l = λ l a. as_rep_lem a c.if-rows-i-ne-REP.false in
-    let here : RepOf c.args.rows.now c.args.i c.requires.stands_in.tree = rep-of _ c.requires.stands_in.at in
+bounds-rows-body c = let rep_of : (l : Expr Span) → At c.args.rows.now c.args.i l → RepOf c.args.rows.now c.args.i l = λ l a. as_rep_lem a c.if-rows-i-ne-REP.false in
+    let here : RepOf c.args.rows.now c.args.i c.requires.stands_in.tree = rep_of _ c.requires.stands_in.at in
     omega (arith, (root here.at).inside)
 
 pub returns-then-rows-body-ne-SEQ : goal.returns-then-rows-body-ne-SEQ
 unfolding kind_at
-returns-then-rows-body-ne-SEQ c = let rep-of : (l : Expr Span) → At c.args.rows.now c.args.i l → RepOf c.args.rows.now c.args.i l = λ l a. as_rep_lem a c.if-rows-i-ne-REP.false in
-    λ l r a b. no_seq _ (rep-of l a) c.if-rows-body-ne-SEQ.true
+returns-then-rows-body-ne-SEQ c = let rep_of : (l : Expr Span) → At c.args.rows.now c.args.i l → RepOf c.args.rows.now c.args.i l = λ l a. as_rep_lem a c.if-rows-i-ne-REP.false in
+    λ l r a b. no_seq _ (rep_of l a) c.if-rows-body-ne-SEQ.true
 
 pub left_of-requires-clause-stands : goal.left_of-requires-clause-stands
 unfolding kind_at
-left_of-requires-clause-stands c = let rep-of : (l : Expr Span) → At c.args.rows.now c.args.i l → RepOf c.args.rows.now c.args.i l = λ l a. as_rep_lem a c.if-rows-i-ne-REP.false in
-    let here : RepOf c.args.rows.now c.args.i c.requires.stands_in.tree = rep-of _ c.requires.stands_in.at in
+left_of-requires-clause-stands c = let rep_of : (l : Expr Span) → At c.args.rows.now c.args.i l → RepOf c.args.rows.now c.args.i l = λ l a. as_rep_lem a c.if-rows-i-ne-REP.false in
+    let here : RepOf c.args.rows.now c.args.i c.requires.stands_in.tree = rep_of _ c.requires.stands_in.at in
     record { tree = _; at = here.at }
 
 pub left_of-requires-clause-i_value : goal.left_of-requires-clause-i_value
 unfolding kind_at
-left_of-requires-clause-i_value c = let rep-of : (l : Expr Span) → At c.args.rows.now c.args.i l → RepOf c.args.rows.now c.args.i l = λ l a. as_rep_lem a c.if-rows-i-ne-REP.false in
-    let here : RepOf c.args.rows.now c.args.i c.requires.stands_in.tree = rep-of _ c.requires.stands_in.at in
+left_of-requires-clause-i_value c =
     bin_half Seq c.if-rows-body-ne-SEQ.false
 
 pub same_tree-requires-clause-stands_in : goal.same_tree-requires-clause-stands_in
 unfolding kind_at
-same_tree-requires-clause-stands_in c = let rep-of : (l : Expr Span) → At c.args.rows.now c.args.i l → RepOf c.args.rows.now c.args.i l = λ l a. as_rep_lem a c.if-rows-i-ne-REP.false in
-    let here : RepOf c.args.rows.now c.args.i c.requires.stands_in.tree = rep-of _ c.requires.stands_in.at in
-    let seq-of : (e : Expr Span) → At c.args.rows.now (c.args.i - 1) e → SidesAt Seq c.args.rows.now (c.args.i - 1) c.left_of.result e = λ e a. sides_at Seq a c.if-rows-body-ne-SEQ.false c.left_of.ensures in
+same_tree-requires-clause-stands_in c = let rep_of : (l : Expr Span) → At c.args.rows.now c.args.i l → RepOf c.args.rows.now c.args.i l = λ l a. as_rep_lem a c.if-rows-i-ne-REP.false in
+    let here : RepOf c.args.rows.now c.args.i c.requires.stands_in.tree = rep_of _ c.requires.stands_in.at in
+    let seq_of : (e : Expr Span) → At c.args.rows.now (c.args.i - 1) e → SidesAt Seq c.args.rows.now (c.args.i - 1) c.left_of.result e = λ e a. sides_at Seq a c.if-rows-body-ne-SEQ.false c.left_of.ensures in
     let v = here in
-    let h = seq-of v.body v.at in
+    let h = seq_of v.body v.at in
     record { tree = h.left; at = h.at_left; within = (rw h.is at (rw v.is at c.requires.stands_in.within)).0 }
 
 pub same_tree-requires-clause-stands_in_2 : goal.same_tree-requires-clause-stands_in_2
 unfolding kind_at
-same_tree-requires-clause-stands_in_2 c = let rep-of : (l : Expr Span) → At c.args.rows.now c.args.i l → RepOf c.args.rows.now c.args.i l = λ l a. as_rep_lem a c.if-rows-i-ne-REP.false in
-    let here : RepOf c.args.rows.now c.args.i c.requires.stands_in.tree = rep-of _ c.requires.stands_in.at in
-    let seq-of : (e : Expr Span) → At c.args.rows.now (c.args.i - 1) e → SidesAt Seq c.args.rows.now (c.args.i - 1) c.left_of.result e = λ e a. sides_at Seq a c.if-rows-body-ne-SEQ.false c.left_of.ensures in
-    let v = here in
-    let h = seq-of v.body v.at in
+same_tree-requires-clause-stands_in_2 c =
     c.requires.stands_in_2
 
 pub returns : goal.returns
 unfolding kind_at
-returns c = let rep-of : (l : Expr Span) → At c.args.rows.now c.args.i l → RepOf c.args.rows.now c.args.i l = λ l a. as_rep_lem a c.if-rows-i-ne-REP.false in
-    let seq-of : (e : Expr Span) → At c.args.rows.now (c.args.i - 1) e → SidesAt Seq c.args.rows.now (c.args.i - 1) c.left_of.result e = λ e a. sides_at Seq a c.if-rows-body-ne-SEQ.false c.left_of.ensures in
-    λ l r a b. let v = rep-of l a in let h = seq-of v.body v.at in loops_tell c.args.text.now v h.is c.same_tree.result r (c.same_tree.ensures h.left r h.at_left b)
+returns c = let rep_of : (l : Expr Span) → At c.args.rows.now c.args.i l → RepOf c.args.rows.now c.args.i l = λ l a. as_rep_lem a c.if-rows-i-ne-REP.false in
+    let seq_of : (e : Expr Span) → At c.args.rows.now (c.args.i - 1) e → SidesAt Seq c.args.rows.now (c.args.i - 1) c.left_of.result e = λ e a. sides_at Seq a c.if-rows-body-ne-SEQ.false c.left_of.ensures in
+    λ l r a b. let v = rep_of l a in let h = seq_of v.body v.at in loops_tell c.args.text.now v h.is c.same_tree.result r (c.same_tree.ensures h.left r h.at_left b)

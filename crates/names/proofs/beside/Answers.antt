@@ -9,10 +9,10 @@ use borrow.Author.Rules.{rules}
 use Rattle.names.proofs.beside.Goals as goal
 
 pub tell_apart-requires : goal.tell_apart-requires
-tell_apart-requires c = let x = c.requires.names_inside c.args.j c.requires.j_value.1 in let y = c.requires.names_inside c.args.i c.requires.i_in_bounds.0 in (omega (arith, c.wide.ensures, c.wide-2.ensures), omega (arith, c.wide-3.ensures, c.wide-4.ensures))
+tell_apart-requires c = (omega (arith, c.wide.ensures, c.wide-2.ensures), omega (arith, c.wide-3.ensures, c.wide-4.ensures))
 
 pub fork-requires-clause-slot_in_bounds : goal.fork-requires-clause-slot_in_bounds
-fork-requires-clause-slot_in_bounds c = let x = told_below c.requires.indexed c.requires.i_in_bounds.0 c.requires.ends c.tell_apart.result c.requires.j_value.0 c.requires.j_value.1 c.wide.ensures c.wide-2.ensures c.wide-3.ensures c.wide-4.ensures c.tell_apart.ensures c.in-Position.is in
+fork-requires-clause-slot_in_bounds c =
     (ends_inside (omega (arith, c.requires.i_in_bounds.0)) c.requires.indexed c.requires.ends, omega (arith, c.requires.i_in_bounds.0, c.requires.indexed.long))
 
 pub fork-requires-clause-i_bound : goal.fork-requires-clause-i_bound

@@ -17,11 +17,11 @@ pub loop-i-init : goal.loop-i-init
 loop-i-init c = (omega arith, refl, c.clear.ensures)
 
 pub index_name-requires-clause-names_inside : goal.index_name-requires-clause-names_inside
-index_name-requires-clause-names_inside c = let l = c.loop-i in
+index_name-requires-clause-names_inside c =
     c.requires.names_inside
 
 pub index_name-requires-clause-i_in_bounds : goal.index_name-requires-clause-i_in_bounds
-index_name-requires-clause-i_in_bounds c = let l = c.loop-i in
+index_name-requires-clause-i_in_bounds c =
     (omega (arith, c.loop-i-test.true), c.requires.rule_width_len_bound.1)
 
 pub index_name-requires-clause-indexed : goal.index_name-requires-clause-indexed

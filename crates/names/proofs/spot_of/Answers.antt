@@ -22,7 +22,7 @@ pub loop-holds-init : goal.loop-holds-init
 loop-holds-init c = (c.half-holds.ensures.0, λ k h. way_start c.bucket_of.ensures.0)
 
 pub go_on-s-requires-clause-names_inside : goal.go_on-s-requires-clause-names_inside
-go_on-s-requires-clause-names_inside c = let l = c.loop-holds in
+go_on-s-requires-clause-names_inside c =
     c.requires.names_inside
 
 pub go_on-s-requires-clause-k_in_bounds : goal.go_on-s-requires-clause-k_in_bounds
@@ -30,7 +30,7 @@ go_on-s-requires-clause-k_in_bounds c = let l = c.loop-holds in
     (node_there c.requires.rule_width_nonzero l.invariant.1 l.invariant.0 c.loop-holds-test.true c.requires.walkable, c.requires.walkable.indexed.long)
 
 pub go_on-s-requires-clause-n_in_bounds : goal.go_on-s-requires-clause-n_in_bounds
-go_on-s-requires-clause-n_in_bounds c = let l = c.loop-holds in
+go_on-s-requires-clause-n_in_bounds c =
     c.requires.n_in_bounds
 
 pub loop-holds-smaller : goal.loop-holds-smaller

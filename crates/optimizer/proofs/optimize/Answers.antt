@@ -22,8 +22,7 @@ returns-then-number-ne0 c = let whole : answer (lent c.args.out_rules.now c.args
     refusal_seen _ refl refl refl c.refused.ensures (c.refusal-number.ensures.refuses c.if-number-ne0.true) ∙ whole
 
 pub steps-requires-clause-ready : goal.steps-requires-clause-ready
-steps-requires-clause-ready c = let sizes : c.any_short-short.result ≡ false → Lengths c.args.out_rules.now c.args.out_rows.now c.args.out_text.now c.args.a_rules.now c.args.a_rows.now c.args.a_text.now c.args.b_rules.now c.args.b_rows.now c.args.b_text.now c.args.marks.now = λ h. none_short (lent c.args.out_rules.now c.args.out_rows.now c.args.out_text.now) (lent c.args.a_rules.now c.args.a_rows.now c.args.a_text.now) (lent c.args.b_rules.now c.args.b_rows.now c.args.b_text.now) c.args.marks.now (sym c.any_short-short.ensures ∙ h) in
-    let z = sizes (c.refusal-number.ensures.sizes c.if-number-ne0.false) in
+steps-requires-clause-ready c =
     c.refusal-number.ensures.ready c.if-number-ne0.false
 
 pub steps-requires-clause-at_least : goal.steps-requires-clause-at_least

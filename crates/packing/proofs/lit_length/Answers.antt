@@ -10,9 +10,9 @@ use Rattle.packing.specs.Packing.{lit_length}
 use borrow.Author.Rules.{rules}
 use Rattle.packing.proofs.lit_length.Goals as goal
 
-lit-used : (k y : ℕ) → k ≤ 3 → (k ≡ 2 → ⊥) → lit_length k y ≡ y
+lit_used : (k y : ℕ) → k ≤ 3 → (k ≡ 2 → ⊥) → lit_length k y ≡ y
 unfolding lit_length
-lit-used k y h n = go (dec_lt k 2)
+lit_used k y h n = go (dec_lt k 2)
   where
     go : Dec (k < 2) → cond (ltb k 2) y (cond (eqb k 3) y 0) ≡ y
     go (yes l) = rw (lt-ltb k 2 l) refl
@@ -28,4 +28,4 @@ returns-then-kind-eq-RANGE c = let k = c.args.kind in (simp (le-ltb k 2 (omega (
 
 pub returns : goal.returns
 unfolding lit_length
-returns c = let a = c.args in (sym (lit-used a.kind a.y (omega (arith, c.if-kind-gt-IDENT.false)) c.if-kind-eq-RANGE.false), omega arith)
+returns c = let a = c.args in (sym (lit_used a.kind a.y (omega (arith, c.if-kind-gt-IDENT.false)) c.if-kind-eq-RANGE.false), omega arith)

@@ -21,7 +21,6 @@ returns-then-bad_text c = refused_4 _ _ _ (sym c.bad_counts.ensures ∙ c.if-bad
 
 pub check_names-requires-clause-names_inside : goal.check_names-requires-clause-names_inside
 check_names-requires-clause-names_inside c = let b = sym c.bad_counts.ensures ∙ c.if-bad_counts.false in
-    let k = counts c.args.rules.now c.args.rows.now c.args.text.now b in
     let t = tells_yes (not-false c.trees.result c.if-not-trees.false-raw) c.trees.ensures in
     inside_names c.args.rules.now c.args.rows.now c.args.text.now b t _ c.bad_text.ensures c.if-bad_text.false
 

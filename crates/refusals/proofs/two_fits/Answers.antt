@@ -14,13 +14,13 @@ returns-then-i-right c = two_no _ _ _ _ c.wide-right.ensures c.if-i-right.true
 
 pub overflow_add-result : goal.overflow_add-result
 overflow_add-result c = let right_fits : Fits w32 (get_or c.args.rows.now ((c.args.i - 1) * row_width + 3) 0) = c.shared_slice_known-2-1.given ((c.args.i - 1) * row_width + 3) in
-    let left-fits : Fits w32 (get_or c.args.rows.now ((c.args.i - 1 - c.wide-right.result) * row_width + 3) 0) = c.shared_slice_known-3-1.given ((c.args.i - 1 - c.wide-right.result) * row_width + 3) in
-    omega (arith, c.wide-right.ensures, c.wide-left.ensures, left-fits, right_fits)
+    let left_fits : Fits w32 (get_or c.args.rows.now ((c.args.i - 1 - c.wide-right.result) * row_width + 3) 0) = c.shared_slice_known-3-1.given ((c.args.i - 1 - c.wide-right.result) * row_width + 3) in
+    omega (arith, c.wide-right.ensures, c.wide-left.ensures, left_fits, right_fits)
 
 pub overflow_add-result-2 : goal.overflow_add-result-2
 overflow_add-result-2 c = let right_fits : Fits w32 (get_or c.args.rows.now ((c.args.i - 1) * row_width + 3) 0) = c.shared_slice_known-2-1.given ((c.args.i - 1) * row_width + 3) in
-    let left-fits : Fits w32 (get_or c.args.rows.now ((c.args.i - 1 - c.wide-right.result) * row_width + 3) 0) = c.shared_slice_known-3-1.given ((c.args.i - 1 - c.wide-right.result) * row_width + 3) in
-    omega (arith, c.wide-right.ensures, c.wide-left.ensures, left-fits, right_fits)
+    let left_fits : Fits w32 (get_or c.args.rows.now ((c.args.i - 1 - c.wide-right.result) * row_width + 3) 0) = c.shared_slice_known-3-1.given ((c.args.i - 1 - c.wide-right.result) * row_width + 3) in
+    omega (arith, c.wide-right.ensures, c.wide-left.ensures, left_fits, right_fits)
 
 pub returns : goal.returns
 returns c = two_tells _ _ _ _ _ c.wide-right.ensures c.if-i-right.false c.wide-left.ensures

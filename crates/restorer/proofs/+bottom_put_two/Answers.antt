@@ -15,8 +15,8 @@ pub bottom-returns-in_default : goal.bottom-returns-in_default
 bottom-returns-in_default t c = absurd (root_there c.requires.stands.at (sym c.row_at.ensures ∙ c.in_default.is))
 
 pub bottom-two-requires : goal.bottom-two-requires
-bottom-two-requires t c = let bottom-read : Found c.args.rows.now c.args.root c.in-Row.kind c.in-Row.x c.in-Row.y c.in-Row.size = row_found (sym c.row_at.ensures ∙ c.in-Row.is) in
-    let f = bottom-read in
+bottom-two-requires t c = let bottom_read : Found c.args.rows.now c.args.root c.in-Row.kind c.in-Row.x c.in-Row.y c.in-Row.size = row_found (sym c.row_at.ensures ∙ c.in-Row.is) in
+    let f = bottom_read in
     let h = sym c.shape_of-shape.ensures ∙ c.in-Two.is in
     let v = as_two f c.requires.stands.at h in
     (omega (arith, c.decreases), (c.requires.known, (c.requires.stands, (c.requires.room, (record { kind = f.kind; first = f.x ∙ ap (λ g. g.1) v.head; second = f.y ∙ ap (λ g. g.2) v.head }, h)))))
@@ -25,20 +25,20 @@ pub bottom-returns-in-Two : goal.bottom-returns-in-Two
 bottom-returns-in-Two t c = c.two.ensures
 
 pub bottom-literal-requires-clause-all_indexed : goal.bottom-literal-requires-clause-all_indexed
-bottom-literal-requires-clause-all_indexed t c = let bottom-read : Found c.args.rows.now c.args.root c.in-Row.kind c.in-Row.x c.in-Row.y c.in-Row.size = row_found (sym c.row_at.ensures ∙ c.in-Row.is) in
+bottom-literal-requires-clause-all_indexed t c =
     c.requires.known.index
 
 pub bottom-literal-requires-clause-y_in_bounds : goal.bottom-literal-requires-clause-y_in_bounds
-bottom-literal-requires-clause-y_in_bounds t c = let bottom-read : Found c.args.rows.now c.args.root c.in-Row.kind c.in-Row.x c.in-Row.y c.in-Row.size = row_found (sym c.row_at.ensures ∙ c.in-Row.is) in
-    in_text _ c.requires.known.inside bottom-read (sym c.shape_of-shape.ensures ∙ c.in-Lit.is)
+bottom-literal-requires-clause-y_in_bounds t c = let bottom_read : Found c.args.rows.now c.args.root c.in-Row.kind c.in-Row.x c.in-Row.y c.in-Row.size = row_found (sym c.row_at.ensures ∙ c.in-Row.is) in
+    in_text _ c.requires.known.inside bottom_read (sym c.shape_of-shape.ensures ∙ c.in-Lit.is)
 
 pub bottom-literal-requires-clause-room : goal.bottom-literal-requires-clause-room
-bottom-literal-requires-clause-room t c = let bottom-read : Found c.args.rows.now c.args.root c.in-Row.kind c.in-Row.x c.in-Row.y c.in-Row.size = row_found (sym c.row_at.ensures ∙ c.in-Row.is) in
+bottom-literal-requires-clause-room t c =
     c.requires.room
 
 pub bottom-returns-in-Lit : goal.bottom-returns-in-Lit
-bottom-returns-in-Lit t c = let bottom-read : Found c.args.rows.now c.args.root c.in-Row.kind c.in-Row.x c.in-Row.y c.in-Row.size = row_found (sym c.row_at.ensures ∙ c.in-Row.is) in
-    λ u r su a. lit_restored bottom-read a c.args.text.now u c.literal.result c.args.p c.args.out.now c.literal.new.out c.args.lits.now c.literal.new.lits (sym c.shape_of-shape.ensures ∙ c.in-Lit.is) (λ j h. c.literal.ensures u j su h)
+bottom-returns-in-Lit t c = let bottom_read : Found c.args.rows.now c.args.root c.in-Row.kind c.in-Row.x c.in-Row.y c.in-Row.size = row_found (sym c.row_at.ensures ∙ c.in-Row.is) in
+    λ u r su a. lit_restored bottom_read a c.args.text.now u c.literal.result c.args.p c.args.out.now c.literal.new.out c.args.lits.now c.literal.new.lits (sym c.shape_of-shape.ensures ∙ c.in-Lit.is) (λ j h. c.literal.ensures u j su h)
 
 pub bottom-plain-requires-clause-inside : goal.bottom-plain-requires-clause-inside
 bottom-plain-requires-clause-inside t c = c.requires.known.inside
@@ -112,8 +112,8 @@ two-returns t c = λ u r su a.
     two_done c.requires.row_is.0 c.requires.row_is.1 a _ u _ c.guards-guard.ensures (shown_of _ _ _ _ _ _ _ c.in-To.is (c.put.ensures u v.left su (two_left c.requires.row_is.0 c.requires.row_is.1 a c.rows_of.ensures))) c.node.result c.node.new.out (shown_of _ _ _ _ _ _ _ c.in-To-put.is (c.put-2.ensures u v.right su v.at_right)) c.either-shown.ensures c.node.ensures
 
 pub bottom-returns : goal.bottom-returns
-bottom-returns t c = let bottom-read : Found c.args.rows.now c.args.root c.in-Row.kind c.in-Row.x c.in-Row.y c.in-Row.size = row_found (sym c.row_at.ensures ∙ c.in-Row.is) in
+bottom-returns t c = let bottom_read : Found c.args.rows.now c.args.root c.in-Row.kind c.in-Row.x c.in-Row.y c.in-Row.size = row_found (sym c.row_at.ensures ∙ c.in-Row.is) in
     λ u r su a.
-    let f = bottom-read in
+    let f = bottom_read in
     let e = c.shape_of-shape.ensures in
     plain_row f a c.args.text.now u c.plain.result c.args.p c.args.out.now c.plain.new.out c.args.lits.now c.plain.new.lits (λ z. c.in_default-shape.not-Two (e ∙ z)) (λ z. c.in_default-shape-2.not-Lit (e ∙ z)) (λ z. c.requires.fact (ap shape_of f.kind ∙ z)) (c.plain.ensures u r a)

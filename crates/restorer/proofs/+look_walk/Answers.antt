@@ -21,7 +21,7 @@ pub look-bounds-marks-i : goal.look-bounds-marks-i
 look-bounds-marks-i t c = omega (arith, c.requires.i_in_bounds, c.requires.searching.given.marked.index.long)
 
 pub look-enter-requires-clause-memory_word_in_bounds : goal.look-enter-requires-clause-memory_word_in_bounds
-look-enter-requires-clause-memory_word_in_bounds t c = let r = look_room c.requires.searching c.requires.i_in_bounds c.requires.i_value in
+look-enter-requires-clause-memory_word_in_bounds t c =
     (omega (arith, c.requires.i_in_bounds, c.requires.searching.given.marked.index.long), omega (arith, c.requires.i_in_bounds, c.requires.searching.few))
 
 pub look-enter-requires-clause-top_in_bounds : goal.look-enter-requires-clause-top_in_bounds
@@ -57,7 +57,6 @@ walk-overflow_sub-i t c = omega (arith, c.loop-i-test.true)
 
 pub walk-visit-requires-clause-given : goal.walk-visit-requires-clause-given
 walk-visit-requires-clause-given t c = let inv = c.loop-i.invariant in
-    let q = walk_top inv c.loop-i-test.true in
     (walk_given inv c.requires.searching).given
 
 pub walk-visit-requires-clause-stands : goal.walk-visit-requires-clause-stands
@@ -73,7 +72,6 @@ walk-shape_of-stack-in-Changes t c = c.loop-i.invariant.longs
 
 pub walk-returns-in-Changes-clause-ran : goal.walk-returns-in-Changes-clause-ran
 walk-returns-in-Changes-clause-ran t c = let inv = c.loop-i.invariant in
-    let v = c.visit.ensures in
     inv.ran
 
 pub walk-look-requires : goal.walk-look-requires
@@ -116,16 +114,14 @@ look-leave-requires t c = let e = c.enter.ensures in
     let w = c.walk-a in look_within c.requires.searching c.requires.i_in_bounds c.requires.i_value e.marks_after e.stack_after w.result w.ensures.ran w.auto.marks w.auto.stack
 
 pub look-returns-clause-ran : goal.look-returns-clause-ran
-look-returns-clause-ran t c = let d = c.requires.searching.given in
-    let i = c.args.i in
+look-returns-clause-ran t c =
     let e = c.enter.ensures in
     let w = c.walk-a in
     let v = c.leave in
     look_ran c.requires.searching c.requires.i_in_bounds c.requires.i_value e.marks_after e.stack_after w.result w.ensures.ran v.result v.ensures.steady v.ensures.leaves
 
 pub look-returns-clause-left : goal.look-returns-clause-left
-look-returns-clause-left t c = let d = c.requires.searching.given in
-    let i = c.args.i in
+look-returns-clause-left t c =
     let e = c.enter.ensures in
     let w = c.walk-a in
     let v = c.leave in

@@ -28,7 +28,6 @@ shape_of-marks c = c.loop-p.invariant.long
 
 pub returns-clause-steady : goal.returns-clause-steady
 returns-clause-steady c = let l = c.loop-p in
-    let e : l.p ≡ c.args.from = omega (arith, c.loop-p-test.false, l.invariant.low) in
     l.invariant.steady
 
 pub returns-clause-by_index : goal.returns-clause-by_index

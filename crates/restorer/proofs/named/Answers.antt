@@ -52,7 +52,7 @@ returns-clause-unseen c = let k = finds_below _ _ _ _ _ c.find_rule.ensures c.in
 
 pub returns-clause-goes_on : goal.returns-clause-goes_on
 unfolding x_at y_at
-returns-clause-goes_on c = let k = finds_below _ _ _ _ _ c.find_rule.ensures c.in-At.is in
+returns-clause-goes_on c =
     asks_goes (words_at _ _ c.requires.i_in_bounds) c.requires.i_value _ _ _ c.recall.ensures
 
 pub returns-clause-visited : goal.returns-clause-visited

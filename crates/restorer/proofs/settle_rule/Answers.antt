@@ -15,7 +15,7 @@ pub returns-then-marks-i-ne-UNSEEN-clause-rule_settled : goal.returns-then-marks
 returns-then-marks-i-ne-UNSEEN-clause-rule_settled c = λ u l h. ends_settled h (below_resolved l _ _ c.requires.i_in_bounds) c.if-marks-i-ne-UNSEEN.true
 
 pub close-requires-clause-lt_to : goal.close-requires-clause-lt_to
-close-requires-clause-lt_to c = let a = c.look in
+close-requires-clause-lt_to c =
     (omega arith, omega arith)
 
 pub returns-in_default-clause-steady : goal.returns-in_default-clause-steady

@@ -25,30 +25,30 @@ pub below-base-requires : goal.below-base-requires
 below-base-requires t c = record { tree = c.requires.ready.tree; at = c.requires.ready.at }
 
 pub overflow_mul-k : goal.overflow_mul-k
-overflow_mul-k t c = let base-at : Stands c.args.rows.now c.below-base.result = record { tree = low c.requires.ready.tree; at = low_at c.requires.ready.tree c.requires.ready.at _ (c.below-base.ensures c.requires.ready.tree c.requires.ready.at) } in
-    omega (arith, (root base-at.at).inside)
+overflow_mul-k t c = let base_at : Stands c.args.rows.now c.below-base.result = record { tree = low c.requires.ready.tree; at = low_at c.requires.ready.tree c.requires.ready.at _ (c.below-base.ensures c.requires.ready.tree c.requires.ready.at) } in
+    omega (arith, (root base_at.at).inside)
 
 pub offset_bounds-rows-base : goal.offset_bounds-rows-base
-offset_bounds-rows-base t c = let base-at : Stands c.args.rows.now c.below-base.result = record { tree = low c.requires.ready.tree; at = low_at c.requires.ready.tree c.requires.ready.at _ (c.below-base.ensures c.requires.ready.tree c.requires.ready.at) } in
-    omega (arith, (root base-at.at).inside)
+offset_bounds-rows-base t c = let base_at : Stands c.args.rows.now c.below-base.result = record { tree = low c.requires.ready.tree; at = low_at c.requires.ready.tree c.requires.ready.at _ (c.below-base.ensures c.requires.ready.tree c.requires.ready.at) } in
+    omega (arith, (root base_at.at).inside)
 
 pub bounds-rows-base : goal.bounds-rows-base
-bounds-rows-base t c = let base-at : Stands c.args.rows.now c.below-base.result = record { tree = low c.requires.ready.tree; at = low_at c.requires.ready.tree c.requires.ready.at _ (c.below-base.ensures c.requires.ready.tree c.requires.ready.at) } in
-    omega (arith, (root base-at.at).inside)
+bounds-rows-base t c = let base_at : Stands c.args.rows.now c.below-base.result = record { tree = low c.requires.ready.tree; at = low_at c.requires.ready.tree c.requires.ready.at _ (c.below-base.ensures c.requires.ready.tree c.requires.ready.at) } in
+    omega (arith, (root base_at.at).inside)
 
 pub forks-requires : goal.forks-requires
-forks-requires t c = let base-at : Stands c.args.rows.now c.below-base.result = record { tree = low c.requires.ready.tree; at = low_at c.requires.ready.tree c.requires.ready.at _ (c.below-base.ensures c.requires.ready.tree c.requires.ready.at) } in
-    base-at
+forks-requires t c = let base_at : Stands c.args.rows.now c.below-base.result = record { tree = low c.requires.ready.tree; at = low_at c.requires.ready.tree c.requires.ready.at _ (c.below-base.ensures c.requires.ready.tree c.requires.ready.at) } in
+    base_at
 
 pub returns-then-not-forks : goal.returns-then-not-forks
 returns-then-not-forks t c = λ r a. leaf_all c.args.text.now c.args.kind r (leaf_below _ r a (c.below-base.ensures r a) (tells_no c.if-not-forks.true c.forks.ensures)) c.keep.result _ _ _ _ _ (c.keep.ensures r a)
 
 pub left_of-requires-clause-stands : goal.left_of-requires-clause-stands
-left_of-requires-clause-stands t c = let base-at : Stands c.args.rows.now c.below-base.result = record { tree = low c.requires.ready.tree; at = low_at c.requires.ready.tree c.requires.ready.at _ (c.below-base.ensures c.requires.ready.tree c.requires.ready.at) } in
-    base-at
+left_of-requires-clause-stands t c = let base_at : Stands c.args.rows.now c.below-base.result = record { tree = low c.requires.ready.tree; at = low_at c.requires.ready.tree c.requires.ready.at _ (c.below-base.ensures c.requires.ready.tree c.requires.ready.at) } in
+    base_at
 
 pub left_of-requires-clause-i_value : goal.left_of-requires-clause-i_value
-left_of-requires-clause-i_value t c = let base-at : Stands c.args.rows.now c.below-base.result = record { tree = low c.requires.ready.tree; at = low_at c.requires.ready.tree c.requires.ready.at _ (c.below-base.ensures c.requires.ready.tree c.requires.ready.at) } in
+left_of-requires-clause-i_value t c =
     tells_yes c.if-not-forks.false c.forks.ensures
 
 pub walk-requires : goal.walk-requires
@@ -83,20 +83,20 @@ returns-then-k-chain t c = let fork : (r : Expr Span) → At c.args.rows.now c.a
     λ r a. let f = fork r a in chain_all c.args.text.now r f.view (first r a) f.fits (second r a) _ _ c.args.kind f.run (c.if-k-chain.true ∙ c.chain_at-chain.ensures)
 
 pub overflow_mul-base : goal.overflow_mul-base
-overflow_mul-base t c = let base-at : Stands c.args.rows.now c.below-base.result = record { tree = low c.requires.ready.tree; at = low_at c.requires.ready.tree c.requires.ready.at _ (c.below-base.ensures c.requires.ready.tree c.requires.ready.at) } in
-    omega (arith, (root base-at.at).inside, c.well_formed.0)
+overflow_mul-base t c = let base_at : Stands c.args.rows.now c.below-base.result = record { tree = low c.requires.ready.tree; at = low_at c.requires.ready.tree c.requires.ready.at _ (c.below-base.ensures c.requires.ready.tree c.requires.ready.at) } in
+    omega (arith, (root base_at.at).inside, c.well_formed.0)
 
 pub overflow_add-base : goal.overflow_add-base
-overflow_add-base t c = let base-at : Stands c.args.rows.now c.below-base.result = record { tree = low c.requires.ready.tree; at = low_at c.requires.ready.tree c.requires.ready.at _ (c.below-base.ensures c.requires.ready.tree c.requires.ready.at) } in
-    omega (arith, (root base-at.at).inside, c.well_formed.0)
+overflow_add-base t c = let base_at : Stands c.args.rows.now c.below-base.result = record { tree = low c.requires.ready.tree; at = low_at c.requires.ready.tree c.requires.ready.at _ (c.below-base.ensures c.requires.ready.tree c.requires.ready.at) } in
+    omega (arith, (root base_at.at).inside, c.well_formed.0)
 
 pub offset_bounds-rows-base-2 : goal.offset_bounds-rows-base-2
-offset_bounds-rows-base-2 t c = let base-at : Stands c.args.rows.now c.below-base.result = record { tree = low c.requires.ready.tree; at = low_at c.requires.ready.tree c.requires.ready.at _ (c.below-base.ensures c.requires.ready.tree c.requires.ready.at) } in
-    omega (arith, (root base-at.at).inside, c.well_formed.0)
+offset_bounds-rows-base-2 t c = let base_at : Stands c.args.rows.now c.below-base.result = record { tree = low c.requires.ready.tree; at = low_at c.requires.ready.tree c.requires.ready.at _ (c.below-base.ensures c.requires.ready.tree c.requires.ready.at) } in
+    omega (arith, (root base_at.at).inside, c.well_formed.0)
 
 pub bounds-rows-base-2 : goal.bounds-rows-base-2
-bounds-rows-base-2 t c = let base-at : Stands c.args.rows.now c.below-base.result = record { tree = low c.requires.ready.tree; at = low_at c.requires.ready.tree c.requires.ready.at _ (c.below-base.ensures c.requires.ready.tree c.requires.ready.at) } in
-    omega (arith, (root base-at.at).inside)
+bounds-rows-base-2 t c = let base_at : Stands c.args.rows.now c.below-base.result = record { tree = low c.requires.ready.tree; at = low_at c.requires.ready.tree c.requires.ready.at _ (c.below-base.ensures c.requires.ready.tree c.requires.ready.at) } in
+    omega (arith, (root base_at.at).inside)
 
 pub overflow_add-end : goal.overflow_add-end
 unfolding size_at
@@ -115,10 +115,6 @@ overflow_sub-end t c = let fork : (r : Expr Span) → At c.args.rows.now c.args.
 pub close-requires-clause-bin : goal.close-requires-clause-bin
 unfolding kind_at size_at
 close-requires-clause-bin t c = let fork : (r : Expr Span) → At c.args.rows.now c.args.root r → Forked c.args.rows.now c.args.text.now c.args.root c.below-base.result c.left_of.result c.args.p c.args.out.now c.args.lits.now r = λ r a. as_forked c.requires.ready (tells_yes c.if-not-forks.false c.forks.ensures) c.left_of.ensures r a (c.below-base.ensures r a) in
-    let first : (r : Expr Span) (a : At c.args.rows.now c.args.root r) → KeptAll c.ended-q.result c.args.p (members_of (kind_at c.args.rows.now c.below-base.result) (resolve c.args.text.now (fork r a).view.left)) c.args.out.now c.walk.new.out c.args.lits.now c.walk.new.lits = λ r a. let f = fork r a in all_done _ _ _ _ _ _ c.ended-q.ensures (c.walk.ensures f.view.left f.at_left) in
-    let second : (r : Expr Span) (a : At c.args.rows.now c.args.root r) → KeptAll c.ended-s.result c.ended-q.result (members_of (kind_at c.args.rows.now c.below-base.result) (resolve c.args.text.now (fork r a).view.right)) c.walk.new.out c.walk-2.new.out c.walk.new.lits c.walk-2.new.lits = λ r a. let v = (fork r a).view in all_done _ _ _ _ _ _ c.ended-s.ensures (c.walk-2.ensures v.right v.at_right) in
-    let size_word : c.wide.result ≡ size_at c.args.rows.now c.below-base.result = c.wide.ensures in
-    let out_same : length c.walk-2.new.out ≡ length c.args.out.now = c.walk-2.auto.out ∙ c.walk.auto.out in
     let f = fork c.requires.ready.tree c.requires.ready.at in
     record { op = f.view.op; is = f.view.kind }
 

@@ -46,25 +46,16 @@ same_rows-requires-clause-n_in_bounds c = let first : Found c.args.rows1.now c.a
     let second : Found c.args.rows2.now c.args.j c.in-Row-row_at.kind c.in-Row-row_at.x c.in-Row-row_at.y c.in-Row-row_at.m = row_found (sym c.row_at-2.ensures ∙ c.in-Row-row_at.is) in
     let first_fits : (c.in-Row.n ≤ c.args.i + 1) × (c.args.i < length c.args.rows1.now / row_width) = let a = c.requires.stands_in.at in let t = root a in (omega (arith, found_size first a), t.inside) in
     let second_fits : (c.in-Row-row_at.m ≤ c.args.j + 1) × (c.args.j < length c.args.rows2.now / row_width) = let a = c.requires.stands_in_2.at in let t = root a in (omega (arith, found_size second a), t.inside) in
-    let a = c.requires.stands_in in
-    let b = c.requires.stands_in_2 in
     (omega (arith, first_fits), omega (arith, second_fits, c.if-n-m.false))
 
 pub same_rows-requires-clause-by_index : goal.same_rows-requires-clause-by_index
 same_rows-requires-clause-by_index c = let first : Found c.args.rows1.now c.args.i c.in-Row.kind c.in-Row.x c.in-Row.y c.in-Row.n = row_found (sym c.row_at.ensures ∙ c.in-Row.is) in
-    let second : Found c.args.rows2.now c.args.j c.in-Row-row_at.kind c.in-Row-row_at.x c.in-Row-row_at.y c.in-Row-row_at.m = row_found (sym c.row_at-2.ensures ∙ c.in-Row-row_at.is) in
-    let first_fits : (c.in-Row.n ≤ c.args.i + 1) × (c.args.i < length c.args.rows1.now / row_width) = let a = c.requires.stands_in.at in let t = root a in (omega (arith, found_size first a), t.inside) in
-    let second_fits : (c.in-Row-row_at.m ≤ c.args.j + 1) × (c.args.j < length c.args.rows2.now / row_width) = let a = c.requires.stands_in_2.at in let t = root a in (omega (arith, found_size second a), t.inside) in
     let a = c.requires.stands_in in
-    let b = c.requires.stands_in_2 in
     within_run _ _ a.at a.within (found_size first a.at)
 
 pub same_rows-requires-clause-by_index_2 : goal.same_rows-requires-clause-by_index_2
-same_rows-requires-clause-by_index_2 c = let first : Found c.args.rows1.now c.args.i c.in-Row.kind c.in-Row.x c.in-Row.y c.in-Row.n = row_found (sym c.row_at.ensures ∙ c.in-Row.is) in
+same_rows-requires-clause-by_index_2 c =
     let second : Found c.args.rows2.now c.args.j c.in-Row-row_at.kind c.in-Row-row_at.x c.in-Row-row_at.y c.in-Row-row_at.m = row_found (sym c.row_at-2.ensures ∙ c.in-Row-row_at.is) in
-    let first_fits : (c.in-Row.n ≤ c.args.i + 1) × (c.args.i < length c.args.rows1.now / row_width) = let a = c.requires.stands_in.at in let t = root a in (omega (arith, found_size first a), t.inside) in
-    let second_fits : (c.in-Row-row_at.m ≤ c.args.j + 1) × (c.args.j < length c.args.rows2.now / row_width) = let a = c.requires.stands_in_2.at in let t = root a in (omega (arith, found_size second a), t.inside) in
-    let a = c.requires.stands_in in
     let b = c.requires.stands_in_2 in
     within_run _ _ b.at b.within (c.if-n-m.false ∙ found_size second b.at)
 

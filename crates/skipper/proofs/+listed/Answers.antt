@@ -21,11 +21,11 @@ pub left_of-requires-clause-root_value : goal.left_of-requires-clause-root_value
 left_of-requires-clause-root_value t c = choice_node c.requires.stands.at c.kind_at.ensures c.if-kind_at-ne-CHOICE.false
 
 pub leaf_listed-requires-2-clause-all_indexed : goal.leaf_listed-requires-2-clause-all_indexed
-leaf_listed-requires-2-clause-all_indexed t c = let a = c.requires.stands.at in
+leaf_listed-requires-2-clause-all_indexed t c =
     c.requires.all_indexed
 
 pub leaf_listed-requires-2-clause-inside : goal.leaf_listed-requires-2-clause-inside
-leaf_listed-requires-2-clause-inside t c = let a = c.requires.stands.at in
+leaf_listed-requires-2-clause-inside t c =
     c.requires.inside
 
 pub leaf_listed-requires-2-clause-stands : goal.leaf_listed-requires-2-clause-stands

@@ -106,7 +106,7 @@ read_leaf-bounds-marks-i t c = let leaf_first : First (length c.args.rules.now /
     omega (arith, leaf_first.below, c.requires.given.index.long)
 
 pub read_leaf-returns-then-mark-ne0-clause-ran : goal.read_leaf-returns-then-mark-ne0-clause-ran
-read_leaf-returns-then-mark-ne0-clause-ran t c = let leaf_first : First (length c.args.rules.now / rule_width) c.args.rules.now c.args.text.now (literal_at c.args.rows.now c.args.text.now c.args.root) c.in-At.i = finds_at _ _ _ _ c.rule_at.ensures c.in-At.is in
+read_leaf-returns-then-mark-ne0-clause-ran t c =
     record { steady = steady_none _; least = omega (arith, c.if-mark-ne0.true) }
 
 pub read_leaf-returns-then-mark-ne0-clause-reads_of : goal.read_leaf-returns-then-mark-ne0-clause-reads_of
@@ -118,7 +118,7 @@ read_leaf-read_rule-requires t c = let leaf_first : First (length c.args.rules.n
     (omega (arith, c.decreases), (c.requires.given, (leaf_first.below, c.if-mark-ne0.false)))
 
 pub read_leaf-returns-clause-ran : goal.read_leaf-returns-clause-ran
-read_leaf-returns-clause-ran t c = let leaf_first : First (length c.args.rules.now / rule_width) c.args.rules.now c.args.text.now (literal_at c.args.rows.now c.args.text.now c.args.root) c.in-At.i = finds_at _ _ _ _ c.rule_at.ensures c.in-At.is in
+read_leaf-returns-clause-ran t c =
     c.read_rule.ensures.ran
 
 pub read_leaf-returns-clause-reads_of : goal.read_leaf-returns-clause-reads_of
@@ -174,7 +174,6 @@ read_rule-shape_of-marks t c = omega (arith, c.read_in-a.auto.marks, length-set 
 pub read_rule-returns-clause-ran : goal.read_rule-returns-clause-ran
 read_rule-returns-clause-ran t c = let i = c.args.i in
     let m = c.args.marks.now in
-    let e = c.wide-end.ensures in
     let b : i * mark_width + memory_word < length m = omega (arith, c.requires.i_in_bounds, c.requires.given.index.long) in
     let ran = c.read_in-a.ensures.ran in
     let b₂ : i * row_width + 1 < length c.read_in-a.new.marks = omega (arith, c.read_in-a.auto.marks, length-set m (i * mark_width + memory_word) 1) in
@@ -185,7 +184,6 @@ read_rule-returns-clause-reads_of t c = let i = c.args.i in
     let m = c.args.marks.now in
     let e = c.wide-end.ensures in
     let b : i * mark_width + memory_word < length m = omega (arith, c.requires.i_in_bounds, c.requires.given.index.long) in
-    let ran = c.read_in-a.ensures.ran in
     let b₂ : i * row_width + 1 < length c.read_in-a.new.marks = omega (arith, c.read_in-a.auto.marks, length-set m (i * mark_width + memory_word) 1) in
     λ u x l f. let r = rule_there u l.heads i c.requires.i_in_bounds in name_read u l.heads _ m x f r b b₂ c.requires.memory_word_value (c.read_in-a.ensures.reads_of u r.rule.body l (rw e (rule_stands l i r c.requires.i_in_bounds c.requires.given.ended)))
 

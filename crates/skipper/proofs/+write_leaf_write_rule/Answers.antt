@@ -94,11 +94,11 @@ pub write_rule-loop-leaf-preserved-then-kind_at-eq-CHOICE : goal.write_rule-loop
 write_rule-loop-leaf-preserved-then-kind_at-eq-CHOICE t c = let inv = c.loop-leaf.invariant in go_left inv (sym c.kind_at-in-loop-leaf.ensures ∙ c.if-kind_at-eq-CHOICE.true) c.left_of-leaf.ensures _ _ c.in-Done.is c.write_leaf.ensures c.write_leaf.auto.out c.write_leaf.auto.lits
 
 pub write_rule-body_of-at-requires-clause-named : goal.write_rule-body_of-at-requires-clause-named
-write_rule-body_of-at-requires-clause-named t c = let inv = c.loop-leaf.invariant in
+write_rule-body_of-at-requires-clause-named t c =
     record { rows = _; led = c.requires.led }
 
 pub write_rule-body_of-at-requires-clause-inside : goal.write_rule-body_of-at-requires-clause-inside
-write_rule-body_of-at-requires-clause-inside t c = let inv = c.loop-leaf.invariant in
+write_rule-body_of-at-requires-clause-inside t c =
     c.requires.led.given.inside
 
 pub write_rule-body_of-at-requires-clause-root_in_bounds : goal.write_rule-body_of-at-requires-clause-root_in_bounds
@@ -123,7 +123,7 @@ pub write_rule-loop-leaf-preserved : goal.write_rule-loop-leaf-preserved
 write_rule-loop-leaf-preserved t c = let inv = c.loop-leaf.invariant in go_body inv (λ e. c.if-kind_at-eq-CHOICE.false (c.kind_at-in-loop-leaf.ensures ∙ e)) (λ e. c.loop-leaf-test.true (c.kind_at.ensures ∙ e)) (λ u l. c.body_of-at.ensures _ u l (c.requires.led.targets u l)) c.well_formed.1.0.0
 
 pub write_rule-put_str-requires-clause-inside : goal.write_rule-put_str-requires-clause-inside
-write_rule-put_str-requires-clause-inside t c = let inv = c.loop-leaf.invariant in
+write_rule-put_str-requires-clause-inside t c =
     c.requires.led.given.inside
 
 pub write_rule-put_str-requires-clause-root_in_bounds : goal.write_rule-put_str-requires-clause-root_in_bounds
@@ -131,7 +131,7 @@ write_rule-put_str-requires-clause-root_in_bounds t c = let inv = c.loop-leaf.in
     (root (ahead inv).at).inside
 
 pub write_rule-put_str-requires-clause-root_value : goal.write_rule-put_str-requires-clause-root_value
-write_rule-put_str-requires-clause-root_value t c = let inv = c.loop-leaf.invariant in
+write_rule-put_str-requires-clause-root_value t c =
     sym c.kind_at.ensures ∙ c.loop-leaf-test.false
 
 pub write_rule-put_str-requires-clause-room : goal.write_rule-put_str-requires-clause-room

@@ -16,8 +16,7 @@ pub overflow_sub-root : goal.overflow_sub-root
 overflow_sub-root c = let a = c.requires.stands.at in let v = rep_view c.args.text.now (read_found_lem a c.kind_at.ensures) a c.if-kind_at-ne-REP.false in omega (arith, v.most, v.least)
 
 pub in_loop-requires-clause-inside : goal.in_loop-requires-clause-inside
-in_loop-requires-clause-inside c = let a = c.requires.stands.at in
-    let v = rep_view c.args.text.now (read_found_lem a c.kind_at.ensures) a c.if-kind_at-ne-REP.false in
+in_loop-requires-clause-inside c =
     c.requires.inside
 
 pub in_loop-requires-clause-stands : goal.in_loop-requires-clause-stands
@@ -29,15 +28,11 @@ pub returns-in_default : goal.returns-in_default
 returns-in_default c = λ u r l a. let y = c.args.text.now in list_no_loop y _ (read_found_lem a c.kind_at.ensures) a c.if-kind_at-ne-REP.false (c.in_loop.ensures _ (rep_view y (read_found_lem a c.kind_at.ensures) a c.if-kind_at-ne-REP.false).at) c.in_default.is
 
 pub listed-requires-clause-all_indexed : goal.listed-requires-clause-all_indexed
-listed-requires-clause-all_indexed c = let y = c.args.text.now in
-    let a = c.requires.stands.at in
-    let o = loop_over_lem y (read_found_lem a c.kind_at.ensures) a c.if-kind_at-ne-REP.false (c.in_loop.ensures _ (rep_view y (read_found_lem a c.kind_at.ensures) a c.if-kind_at-ne-REP.false).at) c.in-Over.is in
+listed-requires-clause-all_indexed c =
     c.requires.all_indexed
 
 pub listed-requires-clause-inside : goal.listed-requires-clause-inside
-listed-requires-clause-inside c = let y = c.args.text.now in
-    let a = c.requires.stands.at in
-    let o = loop_over_lem y (read_found_lem a c.kind_at.ensures) a c.if-kind_at-ne-REP.false (c.in_loop.ensures _ (rep_view y (read_found_lem a c.kind_at.ensures) a c.if-kind_at-ne-REP.false).at) c.in-Over.is in
+listed-requires-clause-inside c =
     c.requires.inside
 
 pub listed-requires-clause-stands : goal.listed-requires-clause-stands

@@ -19,11 +19,11 @@ pub returns-then-kind_at-ne-IDENT : goal.returns-then-kind_at-ne-IDENT
 returns-then-kind_at-ne-IDENT c = λ t l. rule_itself l c.args.text.now c.requires.i_in_bounds
 
 pub rule_at-requires-clause-all_indexed : goal.rule_at-requires-clause-all_indexed
-rule_at-requires-clause-all_indexed c = let body : At c.args.rows.now (c.wide-root.result - 1) (rule_there c.requires.given.table c.requires.given.lent.heads c.args.i c.requires.i_in_bounds).rule.body = rule_before c.requires.given.lent c.args.i (rule_there c.requires.given.table c.requires.given.lent.heads c.args.i c.requires.i_in_bounds) c.requires.i_in_bounds c.requires.given.ended _ c.wide-root.ensures in
+rule_at-requires-clause-all_indexed c =
     c.requires.given.index
 
 pub rule_at-requires-clause-inside : goal.rule_at-requires-clause-inside
-rule_at-requires-clause-inside c = let body : At c.args.rows.now (c.wide-root.result - 1) (rule_there c.requires.given.table c.requires.given.lent.heads c.args.i c.requires.i_in_bounds).rule.body = rule_before c.requires.given.lent c.args.i (rule_there c.requires.given.table c.requires.given.lent.heads c.args.i c.requires.i_in_bounds) c.requires.i_in_bounds c.requires.given.ended _ c.wide-root.ensures in
+rule_at-requires-clause-inside c =
     c.requires.given.inside
 
 pub rule_at-requires-clause-root_in_bounds : goal.rule_at-requires-clause-root_in_bounds
@@ -31,7 +31,7 @@ rule_at-requires-clause-root_in_bounds c = let body : At c.args.rows.now (c.wide
     (root body).inside
 
 pub rule_at-requires-clause-root_value : goal.rule_at-requires-clause-root_value
-rule_at-requires-clause-root_value c = let body : At c.args.rows.now (c.wide-root.result - 1) (rule_there c.requires.given.table c.requires.given.lent.heads c.args.i c.requires.i_in_bounds).rule.body = rule_before c.requires.given.lent c.args.i (rule_there c.requires.given.table c.requires.given.lent.heads c.args.i c.requires.i_in_bounds) c.requires.i_in_bounds c.requires.given.ended _ c.wide-root.ensures in
+rule_at-requires-clause-root_value c =
     sym c.kind_at.ensures ∙ c.if-kind_at-ne-IDENT.false
 
 pub returns-in_default : goal.returns-in_default

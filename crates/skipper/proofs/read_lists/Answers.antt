@@ -18,7 +18,7 @@ returns-then-a-eq-AGAIN-clause-given c = let fresh : Given c.args.rules.now c.ar
     given_steady fresh c.read_rules-a.ensures.ran.steady c.read_rules-a.auto.marks
 
 pub returns-then-a-eq-AGAIN-clause-lists_answer : goal.returns-then-a-eq-AGAIN-clause-lists_answer
-returns-then-a-eq-AGAIN-clause-lists_answer c = let fresh : Given c.args.rules.now c.args.rows.now c.args.text.now c.forget.new.marks = rw c.forget.ensures (cleared_given c.requires) in
+returns-then-a-eq-AGAIN-clause-lists_answer c =
     λ u l. all_met c.requires u l (rw c.forget.ensures at (c.read_rules-a.ensures.loops_of u l)) c.if-a-eq-AGAIN.true
 
 pub returns-else-a-eq-AGAIN-clause-given : goal.returns-else-a-eq-AGAIN-clause-given
@@ -27,6 +27,5 @@ returns-else-a-eq-AGAIN-clause-given c = let fresh : Given c.args.rules.now c.ar
     given_steady read c.shorten.ensures.relisted.steady c.shorten.auto.marks
 
 pub returns-else-a-eq-AGAIN-clause-lists_answer : goal.returns-else-a-eq-AGAIN-clause-lists_answer
-returns-else-a-eq-AGAIN-clause-lists_answer c = let fresh : Given c.args.rules.now c.args.rows.now c.args.text.now c.forget.new.marks = rw c.forget.ensures (cleared_given c.requires) in
-    let read : Given c.args.rules.now c.args.rows.now c.args.text.now c.read_rules-a.new.marks = given_steady fresh c.read_rules-a.ensures.ran.steady c.read_rules-a.auto.marks in
+returns-else-a-eq-AGAIN-clause-lists_answer c =
     λ u l. all_read c.requires u l (rw c.forget.ensures at (c.read_rules-a.ensures.loops_of u l)) c.if-a-eq-AGAIN.false c.shorten.ensures.relisted (c.shorten.ensures.targets u l)

@@ -18,8 +18,7 @@ pub overflow_sub-i : goal.overflow_sub-i
 overflow_sub-i c = let a = c.requires.stands.at in let v = rep_view c.args.text.now (read_found_lem a c.kind_at.ensures) a c.if-kind_at-ne-REP.false in omega (arith, v.most, v.least)
 
 pub in_loop-requires-clause-inside : goal.in_loop-requires-clause-inside
-in_loop-requires-clause-inside c = let a = c.requires.stands.at in
-    let v = rep_view c.args.text.now (read_found_lem a c.kind_at.ensures) a c.if-kind_at-ne-REP.false in
+in_loop-requires-clause-inside c =
     c.requires.given.inside
 
 pub in_loop-requires-clause-stands : goal.in_loop-requires-clause-stands
@@ -34,9 +33,7 @@ pub returns-in_default-clause-loops_of : goal.returns-in_default-clause-loops_of
 returns-in_default-clause-loops_of c = λ u r l a. let y = c.args.text.now in loop_nothing y (read_found_lem a c.kind_at.ensures) a c.if-kind_at-ne-REP.false (c.in_loop.ensures _ (rep_view y (read_found_lem a c.kind_at.ensures) a c.if-kind_at-ne-REP.false).at) c.in_default.is (λ e. omega arith)
 
 pub read_leaves-requires-clause-given : goal.read_leaves-requires-clause-given
-read_leaves-requires-clause-given c = let y = c.args.text.now in
-    let a = c.requires.stands.at in
-    let o = loop_over_lem y (read_found_lem a c.kind_at.ensures) a c.if-kind_at-ne-REP.false (c.in_loop.ensures _ (rep_view y (read_found_lem a c.kind_at.ensures) a c.if-kind_at-ne-REP.false).at) c.in-Over.is in
+read_leaves-requires-clause-given c =
     c.requires.given
 
 pub read_leaves-requires-clause-stands : goal.read_leaves-requires-clause-stands

@@ -10,7 +10,6 @@ loop-i-init c = rows_begin c.requires.tree_rows
 
 pub read_loop-a-requires-clause-given : goal.read_loop-a-requires-clause-given
 read_loop-a-requires-clause-given c = let inv = c.loop-i.invariant in
-    let q = row_in c.requires.tree_rows inv c.loop-i-test.true c.requires.tree_rows.tree c.requires.tree_rows.at in
     given_steady c.requires.given inv.steady inv.long
 
 pub read_loop-a-requires-clause-stands : goal.read_loop-a-requires-clause-stands

@@ -6,8 +6,8 @@ use Rattle.skipper.proofs.Leaf.{given_steady}
 use Rattle.skipper.proofs.Tables.{rules_begin, rules_met, rules_next, rules_end}
 use Rattle.skipper.proofs.read_rules.Goals as goal
 
-omega-lt : {k n m : Prim.Native.Nat.ℕ} → n ≡ m → Prim.Native.Nat.◌<◌ k n → Prim.Native.Nat.◌<◌ k m
-omega-lt e h = omega arith
+omega_lt : {k n m : Prim.Native.Nat.ℕ} → n ≡ m → Prim.Native.Nat.◌<◌ k n → Prim.Native.Nat.◌<◌ k m
+omega_lt e h = omega arith
 
 pub loop-k-init : goal.loop-k-init
 loop-k-init c = (refl, rules_begin)
@@ -24,11 +24,11 @@ pub shape_of-marks-then-a-eq-AGAIN : goal.shape_of-marks-then-a-eq-AGAIN
 shape_of-marks-then-a-eq-AGAIN c = c.read_atomic-a.auto.marks ∙ c.loop-k.invariant.1.long
 
 pub returns-then-a-eq-AGAIN-clause-ran : goal.returns-then-a-eq-AGAIN-clause-ran
-returns-then-a-eq-AGAIN-clause-ran c = let b = omega-lt c.loop-k.invariant.0 c.loop-k-test.true in
+returns-then-a-eq-AGAIN-clause-ran c =
     record { steady = steady_more c.loop-k.invariant.1.steady c.read_atomic-a.ensures.ran.steady; least = omega arith }
 
 pub returns-then-a-eq-AGAIN-clause-loops_of : goal.returns-then-a-eq-AGAIN-clause-loops_of
-returns-then-a-eq-AGAIN-clause-loops_of c = let b = omega-lt c.loop-k.invariant.0 c.loop-k-test.true in
+returns-then-a-eq-AGAIN-clause-loops_of c = let b = omega_lt c.loop-k.invariant.0 c.loop-k-test.true in
     λ u l. rw c.if-a-eq-AGAIN.true at (rules_met c.loop-k.invariant.1 b c.read_atomic-a.ensures.loops_of u l c.if-a-eq-AGAIN.true)
 
 pub overflow_add-k : goal.overflow_add-k
@@ -38,7 +38,7 @@ pub loop-k-smaller : goal.loop-k-smaller
 loop-k-smaller c = omega (arith, c.loop-k-test.true)
 
 pub loop-k-preserved : goal.loop-k-preserved
-loop-k-preserved c = (c.loop-k.invariant.0, rules_next c.loop-k.invariant.1 (omega-lt c.loop-k.invariant.0 c.loop-k-test.true) c.read_atomic-a.ensures.loops_of c.read_atomic-a.ensures.ran.steady c.read_atomic-a.auto.marks c.if-a-eq-AGAIN.false)
+loop-k-preserved c = (c.loop-k.invariant.0, rules_next c.loop-k.invariant.1 (omega_lt c.loop-k.invariant.0 c.loop-k-test.true) c.read_atomic-a.ensures.loops_of c.read_atomic-a.ensures.ran.steady c.read_atomic-a.auto.marks c.if-a-eq-AGAIN.false)
 
 pub shape_of-marks : goal.shape_of-marks
 shape_of-marks c = c.loop-k.invariant.1.long

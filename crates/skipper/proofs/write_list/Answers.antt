@@ -20,11 +20,11 @@ left_of-leaf-requires-clause-root_value c = let inv = c.loop-leaf.invariant in
     choice_node (ahead inv).at c.kind_at.ensures c.loop-leaf-test.true
 
 pub write_leaf-requires-clause-led : goal.write_leaf-requires-clause-led
-write_leaf-requires-clause-led c = let inv = c.loop-leaf.invariant in
+write_leaf-requires-clause-led c =
     c.requires.led
 
 pub write_leaf-requires-clause-inside : goal.write_leaf-requires-clause-inside
-write_leaf-requires-clause-inside c = let inv = c.loop-leaf.invariant in
+write_leaf-requires-clause-inside c =
     c.requires.inside
 
 pub write_leaf-requires-clause-spelled : goal.write_leaf-requires-clause-spelled
@@ -54,11 +54,11 @@ pub loop-leaf-preserved : goal.loop-leaf-preserved
 loop-leaf-preserved c = go_left c.loop-leaf.invariant (sym c.kind_at.ensures ∙ c.loop-leaf-test.true) c.left_of-leaf.ensures _ _ c.in-Done.is c.write_leaf.ensures c.write_leaf.auto.out c.write_leaf.auto.lits
 
 pub write_leaf-requires-2-clause-led : goal.write_leaf-requires-2-clause-led
-write_leaf-requires-2-clause-led c = let inv = c.loop-leaf.invariant in
+write_leaf-requires-2-clause-led c =
     c.requires.led
 
 pub write_leaf-requires-2-clause-inside : goal.write_leaf-requires-2-clause-inside
-write_leaf-requires-2-clause-inside c = let inv = c.loop-leaf.invariant in
+write_leaf-requires-2-clause-inside c =
     c.requires.inside
 
 pub write_leaf-requires-2-clause-spelled : goal.write_leaf-requires-2-clause-spelled

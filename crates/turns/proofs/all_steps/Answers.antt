@@ -17,7 +17,7 @@ first_fired-stay-requires-clause-held c = let q = first_passing c.requires.ready
     record { table = q.table; holds = q.holds }
 
 pub first_fired-stay-requires-clause-from_in_bounds : goal.first_fired-stay-requires-clause-from_in_bounds
-first_fired-stay-requires-clause-from_in_bounds c = let q = first_passing c.requires.ready c.requires.ready.given.table (ready_lent c.requires.ready) c.requires.works.one in
+first_fired-stay-requires-clause-from_in_bounds c =
     (omega arith, refl)
 
 pub pass-p-requires-clause-passing : goal.pass-p-requires-clause-passing
@@ -25,7 +25,7 @@ pass-p-requires-clause-passing c = let z = c.requires.works.one in
     first_passing c.requires.ready c.requires.ready.given.table (ready_lent c.requires.ready) z
 
 pub pass-p-requires-clause-leaves_from : goal.pass-p-requires-clause-leaves_from
-pass-p-requires-clause-leaves_from c = let z = c.requires.works.one in
+pass-p-requires-clause-leaves_from c =
     c.first_fired-stay.ensures.2
 
 pub pass-p-requires-clause-rules_in_bounds : goal.pass-p-requires-clause-rules_in_bounds

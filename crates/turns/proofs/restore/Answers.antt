@@ -48,7 +48,6 @@ returns-then-still c = let e = c.in-Done.is in
 
 pub settle-requires-clause-marked : goal.settle-requires-clause-marked
 settle-requires-clause-marked c = let e = c.in-Done.is in
-    let z = stands_small c.requires.stands e in
     stands_marked c.requires.stands e (c.requires.index _ e)
 
 pub settle-requires-clause-rows_len_bound : goal.settle-requires-clause-rows_len_bound
@@ -68,9 +67,7 @@ pass-requires-clause-passing c = let settled : Sized c.settle.new.stack c.args.r
     restore_passing k e c.settle.ensures.given.marked c.settle.ensures.settles
 
 pub pass-requires-clause-leaves_from : goal.pass-requires-clause-leaves_from
-pass-requires-clause-leaves_from c = let settled : Sized c.settle.new.stack c.args.rows2.now c.args.text2.now = sized_same c.settle.auto.stack refl refl c.requires.stands.works.other in
-    let e = c.in-Done.is in
-    let k = stands_other c.requires.stands settled in
+pass-requires-clause-leaves_from c =
     λ j b. absurd (omega (arith, b))
 
 pub pass-requires-clause-rules_in_bounds : goal.pass-requires-clause-rules_in_bounds
@@ -81,7 +78,6 @@ pass-requires-clause-rules_in_bounds c = let settled : Sized c.settle.new.stack 
 
 pub pass-requires-clause-areas : goal.pass-requires-clause-areas
 pass-requires-clause-areas c = let settled : Sized c.settle.new.stack c.args.rows2.now c.args.text2.now = sized_same c.settle.auto.stack refl refl c.requires.stands.works.other in
-    let e = c.in-Done.is in
     let k = stands_other c.requires.stands settled in
     sized_areas k.works.other
 

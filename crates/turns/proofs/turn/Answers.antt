@@ -53,7 +53,7 @@ pass-requires-clause-passing c = let e = c.in-Done.is in
     turn_passing c.requires e
 
 pub pass-requires-clause-leaves_from : goal.pass-requires-clause-leaves_from
-pass-requires-clause-leaves_from c = let e = c.in-Done.is in
+pass-requires-clause-leaves_from c =
     c.first_fired-stay.ensures.2
 
 pub pass-requires-clause-rules_in_bounds : goal.pass-requires-clause-rules_in_bounds
@@ -61,7 +61,7 @@ pass-requires-clause-rules_in_bounds c = let e = c.in-Done.is in
     stands_few c.requires.stands e
 
 pub pass-requires-clause-areas : goal.pass-requires-clause-areas
-pass-requires-clause-areas c = let e = c.in-Done.is in
+pass-requires-clause-areas c =
     sized_areas c.requires.stands.works.other
 
 pub shape_of-heads2 : goal.shape_of-heads2

@@ -42,18 +42,18 @@ bottom-bounds-rows-at-3 t c = omega (arith, (root c.requires.counted.at).inside)
 
 pub bottom-put_lit-requires-clause-n_in_bounds : goal.bottom-put_lit-requires-clause-n_in_bounds
 unfolding kind_at x_at y_at
-bottom-put_lit-requires-clause-n_in_bounds t c = let is-lit : shape_of (kind_at c.args.rows.now c.args.root) ≡ Lit = sym c.shape_of.ensures ∙ c.in-Lit.is in
-    lit_in _ c.args.rows.now c.args.root c.requires.inside (root c.requires.counted.at).inside is-lit c.wide.ensures c.wide-in-Lit.ensures
+bottom-put_lit-requires-clause-n_in_bounds t c = let is_lit : shape_of (kind_at c.args.rows.now c.args.root) ≡ Lit = sym c.shape_of.ensures ∙ c.in-Lit.is in
+    lit_in _ c.args.rows.now c.args.root c.requires.inside (root c.requires.counted.at).inside is_lit c.wide.ensures c.wide-in-Lit.ensures
 
 pub bottom-put_lit-requires-clause-room : goal.bottom-put_lit-requires-clause-room
 unfolding kind_at x_at y_at
-bottom-put_lit-requires-clause-room t c = let is-lit : shape_of (kind_at c.args.rows.now c.args.root) ≡ Lit = sym c.shape_of.ensures ∙ c.in-Lit.is in
+bottom-put_lit-requires-clause-room t c =
     c.requires.room
 
 pub bottom-overflow_sub-right : goal.bottom-overflow_sub-right
 unfolding kind_at
-bottom-overflow_sub-right t c = let two-of : (r : Expr Span) (a : At c.args.rows.now c.args.root r) → let w = c.args.rows.now in let i = c.args.root in TwoView w i (kind_at w i) (x_at w i) (y_at w i) (size_at w i) r = λ _ a. as_two (found_row _ _ (root a).inside) a (sym c.shape_of.ensures ∙ c.in-Two.is) in
-    let v = (two-of _) c.requires.counted.at in omega (arith, v.least_left, v.most)
+bottom-overflow_sub-right t c = let two_of : (r : Expr Span) (a : At c.args.rows.now c.args.root r) → let w = c.args.rows.now in let i = c.args.root in TwoView w i (kind_at w i) (x_at w i) (y_at w i) (size_at w i) r = λ _ a. as_two (found_row _ _ (root a).inside) a (sym c.shape_of.ensures ∙ c.in-Two.is) in
+    let v = (two_of _) c.requires.counted.at in omega (arith, v.least_left, v.most)
 
 pub bottom-overflow_mul-right : goal.bottom-overflow_mul-right
 bottom-overflow_mul-right t c = omega (arith, (root c.requires.counted.at).inside, c.well_formed)
@@ -66,66 +66,66 @@ bottom-offset_bounds-rows-right t c = omega (arith, (root c.requires.counted.at)
 
 pub bottom-bounds-rows-right : goal.bottom-bounds-rows-right
 unfolding kind_at
-bottom-bounds-rows-right t c = let two-of : (r : Expr Span) (a : At c.args.rows.now c.args.root r) → let w = c.args.rows.now in let i = c.args.root in TwoView w i (kind_at w i) (x_at w i) (y_at w i) (size_at w i) r = λ _ a. as_two (found_row _ _ (root a).inside) a (sym c.shape_of.ensures ∙ c.in-Two.is) in
-    let v = (two-of _) c.requires.counted.at in omega (arith, (root c.requires.counted.at).inside, v.least_left, v.most)
+bottom-bounds-rows-right t c = let two_of : (r : Expr Span) (a : At c.args.rows.now c.args.root r) → let w = c.args.rows.now in let i = c.args.root in TwoView w i (kind_at w i) (x_at w i) (y_at w i) (size_at w i) r = λ _ a. as_two (found_row _ _ (root a).inside) a (sym c.shape_of.ensures ∙ c.in-Two.is) in
+    let v = (two_of _) c.requires.counted.at in omega (arith, (root c.requires.counted.at).inside, v.least_left, v.most)
 
 pub bottom-overflow_sub-left : goal.bottom-overflow_sub-left
 unfolding kind_at size_at
-bottom-overflow_sub-left t c = let two-of : (r : Expr Span) (a : At c.args.rows.now c.args.root r) → let w = c.args.rows.now in let i = c.args.root in TwoView w i (kind_at w i) (x_at w i) (y_at w i) (size_at w i) r = λ _ a. as_two (found_row _ _ (root a).inside) a (sym c.shape_of.ensures ∙ c.in-Two.is) in
-    let right-size : (r : Expr Span) (a : At c.args.rows.now c.args.root r) → c.wide-in-Two.result ≡ size ((two-of _) a).right = λ _ a. c.wide-in-Two.ensures ∙ (root ((two-of _) a).at_right).rows in
-    let a = c.requires.counted.at in let v = (two-of _) a in omega (arith, v.most, v.least_left, (right-size _) a)
+bottom-overflow_sub-left t c = let two_of : (r : Expr Span) (a : At c.args.rows.now c.args.root r) → let w = c.args.rows.now in let i = c.args.root in TwoView w i (kind_at w i) (x_at w i) (y_at w i) (size_at w i) r = λ _ a. as_two (found_row _ _ (root a).inside) a (sym c.shape_of.ensures ∙ c.in-Two.is) in
+    let right_size : (r : Expr Span) (a : At c.args.rows.now c.args.root r) → c.wide-in-Two.result ≡ size ((two_of _) a).right = λ _ a. c.wide-in-Two.ensures ∙ (root ((two_of _) a).at_right).rows in
+    let a = c.requires.counted.at in let v = (two_of _) a in omega (arith, v.most, v.least_left, (right_size _) a)
 
 pub bottom-unroll-requires : goal.bottom-unroll-requires
 unfolding kind_at size_at
-bottom-unroll-requires t c = let two-of : (r : Expr Span) (a : At c.args.rows.now c.args.root r) → let w = c.args.rows.now in let i = c.args.root in TwoView w i (kind_at w i) (x_at w i) (y_at w i) (size_at w i) r = λ _ a. as_two (found_row _ _ (root a).inside) a (sym c.shape_of.ensures ∙ c.in-Two.is) in
-    let right-size : (r : Expr Span) (a : At c.args.rows.now c.args.root r) → c.wide-in-Two.result ≡ size ((two-of _) a).right = λ _ a. c.wide-in-Two.ensures ∙ (root ((two-of _) a).at_right).rows in
-    let v = (two-of _) c.requires.counted.at in
-    let g = (right-size _) c.requires.counted.at in
+bottom-unroll-requires t c = let two_of : (r : Expr Span) (a : At c.args.rows.now c.args.root r) → let w = c.args.rows.now in let i = c.args.root in TwoView w i (kind_at w i) (x_at w i) (y_at w i) (size_at w i) r = λ _ a. as_two (found_row _ _ (root a).inside) a (sym c.shape_of.ensures ∙ c.in-Two.is) in
+    let right_size : (r : Expr Span) (a : At c.args.rows.now c.args.root r) → c.wide-in-Two.result ≡ size ((two_of _) a).right = λ _ a. c.wide-in-Two.ensures ∙ (root ((two_of _) a).at_right).rows in
+    let v = (two_of _) c.requires.counted.at in
+    let g = (right_size _) c.requires.counted.at in
     let a = left_at v _ g in
     (omega (arith, c.decreases, (root a).rows, (root c.requires.counted.at).rows, v.rows), (c.requires.inside, (left_counted c.args.text.now _ v _ g c.requires.counted.counts, c.requires.room)))
 
 pub bottom-returns-in_default : goal.bottom-returns-in_default
 unfolding kind_at size_at
-bottom-returns-in_default t c = let two-of : (r : Expr Span) (a : At c.args.rows.now c.args.root r) → let w = c.args.rows.now in let i = c.args.root in TwoView w i (kind_at w i) (x_at w i) (y_at w i) (size_at w i) r = λ _ a. as_two (found_row _ _ (root a).inside) a (sym c.shape_of.ensures ∙ c.in-Two.is) in
-    let right-size : (r : Expr Span) (a : At c.args.rows.now c.args.root r) → c.wide-in-Two.result ≡ size ((two-of _) a).right = λ _ a. c.wide-in-Two.ensures ∙ (root ((two-of _) a).at_right).rows in
-    λ r a. two_full₁ _ _ ((two-of _) a) _ ((right-size _) a) _ _ _ _ _ _ c.unroll.ensures c.in_default.is
+bottom-returns-in_default t c = let two_of : (r : Expr Span) (a : At c.args.rows.now c.args.root r) → let w = c.args.rows.now in let i = c.args.root in TwoView w i (kind_at w i) (x_at w i) (y_at w i) (size_at w i) r = λ _ a. as_two (found_row _ _ (root a).inside) a (sym c.shape_of.ensures ∙ c.in-Two.is) in
+    let right_size : (r : Expr Span) (a : At c.args.rows.now c.args.root r) → c.wide-in-Two.result ≡ size ((two_of _) a).right = λ _ a. c.wide-in-Two.ensures ∙ (root ((two_of _) a).at_right).rows in
+    λ r a. two_full₁ _ _ ((two_of _) a) _ ((right_size _) a) _ _ _ _ _ _ c.unroll.ensures c.in_default.is
 
 pub bottom-unroll-requires-in-Two : goal.bottom-unroll-requires-in-Two
 unfolding kind_at size_at
-bottom-unroll-requires-in-Two t c = let two-of : (r : Expr Span) (a : At c.args.rows.now c.args.root r) → let w = c.args.rows.now in let i = c.args.root in TwoView w i (kind_at w i) (x_at w i) (y_at w i) (size_at w i) r = λ _ a. as_two (found_row _ _ (root a).inside) a (sym c.shape_of.ensures ∙ c.in-Two.is) in
-    let right-size : (r : Expr Span) (a : At c.args.rows.now c.args.root r) → c.wide-in-Two.result ≡ size ((two-of _) a).right = λ _ a. c.wide-in-Two.ensures ∙ (root ((two-of _) a).at_right).rows in
-    let v = (two-of _) c.requires.counted.at in
-    let g = (right-size _) c.requires.counted.at in
+bottom-unroll-requires-in-Two t c = let two_of : (r : Expr Span) (a : At c.args.rows.now c.args.root r) → let w = c.args.rows.now in let i = c.args.root in TwoView w i (kind_at w i) (x_at w i) (y_at w i) (size_at w i) r = λ _ a. as_two (found_row _ _ (root a).inside) a (sym c.shape_of.ensures ∙ c.in-Two.is) in
+    let right_size : (r : Expr Span) (a : At c.args.rows.now c.args.root r) → c.wide-in-Two.result ≡ size ((two_of _) a).right = λ _ a. c.wide-in-Two.ensures ∙ (root ((two_of _) a).at_right).rows in
+    let v = (two_of _) c.requires.counted.at in
+    let g = (right_size _) c.requires.counted.at in
     (omega (arith, c.decreases, (root v.at_right).rows, (root c.requires.counted.at).rows, v.rows), (c.requires.inside, (right_counted c.args.text.now _ v _ g c.requires.counted.counts, two_room _ _ v _ g _ _ _ _ _ _ c.unroll.ensures c.in-Done.is c.requires.room.areas)))
 
 pub bottom-returns-in_default-unroll : goal.bottom-returns-in_default-unroll
 unfolding kind_at size_at
-bottom-returns-in_default-unroll t c = let two-of : (r : Expr Span) (a : At c.args.rows.now c.args.root r) → let w = c.args.rows.now in let i = c.args.root in TwoView w i (kind_at w i) (x_at w i) (y_at w i) (size_at w i) r = λ _ a. as_two (found_row _ _ (root a).inside) a (sym c.shape_of.ensures ∙ c.in-Two.is) in
-    let right-size : (r : Expr Span) (a : At c.args.rows.now c.args.root r) → c.wide-in-Two.result ≡ size ((two-of _) a).right = λ _ a. c.wide-in-Two.ensures ∙ (root ((two-of _) a).at_right).rows in
-    λ r a. two_full₂ _ _ ((two-of _) a) _ ((right-size _) a) _ _ _ _ _ _ c.unroll.ensures c.in-Done.is _ _ _ c.unroll-in-Two.ensures c.in_default-unroll.is
+bottom-returns-in_default-unroll t c = let two_of : (r : Expr Span) (a : At c.args.rows.now c.args.root r) → let w = c.args.rows.now in let i = c.args.root in TwoView w i (kind_at w i) (x_at w i) (y_at w i) (size_at w i) r = λ _ a. as_two (found_row _ _ (root a).inside) a (sym c.shape_of.ensures ∙ c.in-Two.is) in
+    let right_size : (r : Expr Span) (a : At c.args.rows.now c.args.root r) → c.wide-in-Two.result ≡ size ((two_of _) a).right = λ _ a. c.wide-in-Two.ensures ∙ (root ((two_of _) a).at_right).rows in
+    λ r a. two_full₂ _ _ ((two_of _) a) _ ((right_size _) a) _ _ _ _ _ _ c.unroll.ensures c.in-Done.is _ _ _ c.unroll-in-Two.ensures c.in_default-unroll.is
 
 pub bottom-overflow_sub-size : goal.bottom-overflow_sub-size
 unfolding kind_at size_at
-bottom-overflow_sub-size t c = let two-of : (r : Expr Span) (a : At c.args.rows.now c.args.root r) → let w = c.args.rows.now in let i = c.args.root in TwoView w i (kind_at w i) (x_at w i) (y_at w i) (size_at w i) r = λ _ a. as_two (found_row _ _ (root a).inside) a (sym c.shape_of.ensures ∙ c.in-Two.is) in
-    let right-size : (r : Expr Span) (a : At c.args.rows.now c.args.root r) → c.wide-in-Two.result ≡ size ((two-of _) a).right = λ _ a. c.wide-in-Two.ensures ∙ (root ((two-of _) a).at_right).rows in
-    let a = c.requires.counted.at in let z = two_size _ _ ((two-of _) a) _ ((right-size _) a) _ _ _ _ _ _ c.unroll.ensures c.in-Done.is _ _ _ c.unroll-in-Two.ensures c.in-Done-unroll.is in z.1
+bottom-overflow_sub-size t c = let two_of : (r : Expr Span) (a : At c.args.rows.now c.args.root r) → let w = c.args.rows.now in let i = c.args.root in TwoView w i (kind_at w i) (x_at w i) (y_at w i) (size_at w i) r = λ _ a. as_two (found_row _ _ (root a).inside) a (sym c.shape_of.ensures ∙ c.in-Two.is) in
+    let right_size : (r : Expr Span) (a : At c.args.rows.now c.args.root r) → c.wide-in-Two.result ≡ size ((two_of _) a).right = λ _ a. c.wide-in-Two.ensures ∙ (root ((two_of _) a).at_right).rows in
+    let a = c.requires.counted.at in let z = two_size _ _ ((two_of _) a) _ ((right_size _) a) _ _ _ _ _ _ c.unroll.ensures c.in-Done.is _ _ _ c.unroll-in-Two.ensures c.in-Done-unroll.is in z.1
 
 pub bottom-overflow_add-size : goal.bottom-overflow_add-size
 unfolding kind_at size_at
-bottom-overflow_add-size t c = let two-of : (r : Expr Span) (a : At c.args.rows.now c.args.root r) → let w = c.args.rows.now in let i = c.args.root in TwoView w i (kind_at w i) (x_at w i) (y_at w i) (size_at w i) r = λ _ a. as_two (found_row _ _ (root a).inside) a (sym c.shape_of.ensures ∙ c.in-Two.is) in
-    let right-size : (r : Expr Span) (a : At c.args.rows.now c.args.root r) → c.wide-in-Two.result ≡ size ((two-of _) a).right = λ _ a. c.wide-in-Two.ensures ∙ (root ((two-of _) a).at_right).rows in
-    let a = c.requires.counted.at in let z = two_size _ _ ((two-of _) a) _ ((right-size _) a) _ _ _ _ _ _ c.unroll.ensures c.in-Done.is _ _ _ c.unroll-in-Two.ensures c.in-Done-unroll.is in omega (arith, z.2, c.requires.room.areas.words)
+bottom-overflow_add-size t c = let two_of : (r : Expr Span) (a : At c.args.rows.now c.args.root r) → let w = c.args.rows.now in let i = c.args.root in TwoView w i (kind_at w i) (x_at w i) (y_at w i) (size_at w i) r = λ _ a. as_two (found_row _ _ (root a).inside) a (sym c.shape_of.ensures ∙ c.in-Two.is) in
+    let right_size : (r : Expr Span) (a : At c.args.rows.now c.args.root r) → c.wide-in-Two.result ≡ size ((two_of _) a).right = λ _ a. c.wide-in-Two.ensures ∙ (root ((two_of _) a).at_right).rows in
+    let a = c.requires.counted.at in let z = two_size _ _ ((two_of _) a) _ ((right_size _) a) _ _ _ _ _ _ c.unroll.ensures c.in-Done.is _ _ _ c.unroll-in-Two.ensures c.in-Done-unroll.is in omega (arith, z.2, c.requires.room.areas.words)
 
 pub bottom-overflow_cast-size : goal.bottom-overflow_cast-size
 unfolding kind_at size_at
-bottom-overflow_cast-size t c = let two-of : (r : Expr Span) (a : At c.args.rows.now c.args.root r) → let w = c.args.rows.now in let i = c.args.root in TwoView w i (kind_at w i) (x_at w i) (y_at w i) (size_at w i) r = λ _ a. as_two (found_row _ _ (root a).inside) a (sym c.shape_of.ensures ∙ c.in-Two.is) in
-    let right-size : (r : Expr Span) (a : At c.args.rows.now c.args.root r) → c.wide-in-Two.result ≡ size ((two-of _) a).right = λ _ a. c.wide-in-Two.ensures ∙ (root ((two-of _) a).at_right).rows in
-    let a = c.requires.counted.at in let z = two_size _ _ ((two-of _) a) _ ((right-size _) a) _ _ _ _ _ _ c.unroll.ensures c.in-Done.is _ _ _ c.unroll-in-Two.ensures c.in-Done-unroll.is in omega (arith, z.1, z.2, c.requires.room.areas.words)
+bottom-overflow_cast-size t c = let two_of : (r : Expr Span) (a : At c.args.rows.now c.args.root r) → let w = c.args.rows.now in let i = c.args.root in TwoView w i (kind_at w i) (x_at w i) (y_at w i) (size_at w i) r = λ _ a. as_two (found_row _ _ (root a).inside) a (sym c.shape_of.ensures ∙ c.in-Two.is) in
+    let right_size : (r : Expr Span) (a : At c.args.rows.now c.args.root r) → c.wide-in-Two.result ≡ size ((two_of _) a).right = λ _ a. c.wide-in-Two.ensures ∙ (root ((two_of _) a).at_right).rows in
+    let a = c.requires.counted.at in let z = two_size _ _ ((two_of _) a) _ ((right_size _) a) _ _ _ _ _ _ c.unroll.ensures c.in-Done.is _ _ _ c.unroll-in-Two.ensures c.in-Done-unroll.is in omega (arith, z.1, z.2, c.requires.room.areas.words)
 
 pub bottom-returns-in-Lit : goal.bottom-returns-in-Lit
 unfolding kind_at x_at y_at
-bottom-returns-in-Lit t c = let is-lit : shape_of (kind_at c.args.rows.now c.args.root) ≡ Lit = sym c.shape_of.ensures ∙ c.in-Lit.is in
-    λ r a. unrolled_lit _ c.put_lit.result _ _ _ _ _ _ _ (as_lit (found_row _ _ (root a).inside) a is-lit) c.wide.ensures c.wide-in-Lit.ensures c.put_lit.ensures
+bottom-returns-in-Lit t c = let is_lit : shape_of (kind_at c.args.rows.now c.args.root) ≡ Lit = sym c.shape_of.ensures ∙ c.in-Lit.is in
+    λ r a. unrolled_lit _ c.put_lit.result _ _ _ _ _ _ _ (as_lit (found_row _ _ (root a).inside) a is_lit) c.wide.ensures c.wide-in-Lit.ensures c.put_lit.ensures
 
 pub bottom-returns-in-Num : goal.bottom-returns-in-Num
 unfolding kind_at x_at y_at
@@ -141,9 +141,9 @@ bottom-returns-in-One t c = absurd (c.requires.fact (sym c.shape_of.ensures ∙ 
 
 pub bottom-returns-in-Done-unroll : goal.bottom-returns-in-Done-unroll
 unfolding kind_at x_at y_at size_at
-bottom-returns-in-Done-unroll t c = let two-of : (r : Expr Span) (a : At c.args.rows.now c.args.root r) → let w = c.args.rows.now in let i = c.args.root in TwoView w i (kind_at w i) (x_at w i) (y_at w i) (size_at w i) r = λ _ a. as_two (found_row _ _ (root a).inside) a (sym c.shape_of.ensures ∙ c.in-Two.is) in
-    let right-size : (r : Expr Span) (a : At c.args.rows.now c.args.root r) → c.wide-in-Two.result ≡ size ((two-of _) a).right = λ _ a. c.wide-in-Two.ensures ∙ (root ((two-of _) a).at_right).rows in
-    λ r a. two_node _ _ ((two-of _) a) _ ((right-size _) a) _ _ _ _ _ _ c.unroll.ensures c.in-Done.is _ _ _ c.unroll-in-Two.ensures c.put_row-in-Two.result _ c.in-Done-unroll.is c.put_row-in-Two.ensures
+bottom-returns-in-Done-unroll t c = let two_of : (r : Expr Span) (a : At c.args.rows.now c.args.root r) → let w = c.args.rows.now in let i = c.args.root in TwoView w i (kind_at w i) (x_at w i) (y_at w i) (size_at w i) r = λ _ a. as_two (found_row _ _ (root a).inside) a (sym c.shape_of.ensures ∙ c.in-Two.is) in
+    let right_size : (r : Expr Span) (a : At c.args.rows.now c.args.root r) → c.wide-in-Two.result ≡ size ((two_of _) a).right = λ _ a. c.wide-in-Two.ensures ∙ (root ((two_of _) a).at_right).rows in
+    λ r a. two_node _ _ ((two_of _) a) _ ((right_size _) a) _ _ _ _ _ _ c.unroll.ensures c.in-Done.is _ _ _ c.unroll-in-Two.ensures c.put_row-in-Two.result _ c.in-Done-unroll.is c.put_row-in-Two.ensures
 
 pub unroll-bottom-requires : goal.unroll-bottom-requires
 unroll-bottom-requires t c = let e = c.below-base.ensures in

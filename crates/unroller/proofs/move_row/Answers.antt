@@ -17,15 +17,13 @@ returns-in_default c = absurd (row_there _ _ c.requires.i_in_bounds.0 (sym c.row
 
 pub overflow_add-x : goal.overflow_add-x
 overflow_add-x c = let found : Found c.args.out.now c.args.i c.in-Row.kind c.in-Row.x c.in-Row.y c.in-Row.size = row_found (sym c.row_at.ensures ∙ c.in-Row.is) in
-    let is-lit : shape_of c.in-Row.kind ≡ Lit = sym c.shape_of.ensures ∙ c.in-Lit.is in
     let f = found in
-    let m : x_at c.args.out.now c.args.i + c.args.d < 2 ^ 32 = c.requires.movable (ap shape_of f.kind ∙ is-lit) in
     omega (arith, f.x)
 
 pub returns-in-Lit : goal.returns-in-Lit
 returns-in-Lit c = let found : Found c.args.out.now c.args.i c.in-Row.kind c.in-Row.x c.in-Row.y c.in-Row.size = row_found (sym c.row_at.ensures ∙ c.in-Row.is) in
-    let is-lit : shape_of c.in-Row.kind ≡ Lit = sym c.shape_of.ensures ∙ c.in-Lit.is in
-    c.set_row.ensures ∙ ap (stored c.args.out.now (c.args.j * row_width)) (lit_moved c.args.d found is-lit)
+    let is_lit : shape_of c.in-Row.kind ≡ Lit = sym c.shape_of.ensures ∙ c.in-Lit.is in
+    c.set_row.ensures ∙ ap (stored c.args.out.now (c.args.j * row_width)) (lit_moved c.args.d found is_lit)
 
 pub returns-in_default-shape_of : goal.returns-in_default-shape_of
 returns-in_default-shape_of c = let found : Found c.args.out.now c.args.i c.in-Row.kind c.in-Row.x c.in-Row.y c.in-Row.size = row_found (sym c.row_at.ensures ∙ c.in-Row.is) in

@@ -15,8 +15,7 @@ unfolding stored
 loop-k-init c = (omega arith, refl, refl)
 
 pub move_row-requires-clause-i_in_bounds : goal.move_row-requires-clause-i_in_bounds
-move_row-requires-clause-i_in_bounds c = let k = c.loop-k.k in
-    let v = c.loop-k.invariant in
+move_row-requires-clause-i_in_bounds c =
     (omega (arith, c.requires.n_bound), omega (arith, c.requires.n_bound))
 
 pub move_row-requires-clause-movable : goal.move_row-requires-clause-movable

@@ -27,9 +27,7 @@ lay-s-requires c = let n = c.args.n in
     nest_lay n c.requires.source c.requires.least c.requires.areas (holds_fit n c.requires.source c.requires.least (tells_yes c.if-not-hold.false c.hold.ensures))
 
 pub close-requires-clause-bin : goal.close-requires-clause-bin
-close-requires-clause-bin c = let n = c.args.n in
-    let f = holds_fit n c.requires.source c.requires.least (tells_yes c.if-not-hold.false c.hold.ensures) in
-    let k : count_of n - 1 ≡ length (items_of n c.requires.tree) - 1 = omega (arith, items_count n c.requires.tree) in
+close-requires-clause-bin c =
     record { op = Seq; is = refl }
 
 pub close-requires-clause-closable : goal.close-requires-clause-closable

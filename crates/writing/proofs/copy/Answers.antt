@@ -28,13 +28,11 @@ copy_rows-requires-clause-n_in_bounds c = let found : Found c.args.rows.now c.ar
     omega (arith, fits)
 
 pub copy_rows-requires-clause-inside : goal.copy_rows-requires-clause-inside
-copy_rows-requires-clause-inside c = let found : Found c.args.rows.now c.args.root c.in-Row.kind c.in-Row.x c.in-Row.y c.in-Row.size = row_found (sym c.row_at.ensures ∙ c.in-Row.is) in
-    let fits : (c.in-Row.size ≤ c.args.root + 1) × (c.args.root < length c.args.rows.now / row_width) = let a = c.requires.stands.at in let t = root a in (omega (arith, found_size found a), t.inside) in
+copy_rows-requires-clause-inside c =
     c.requires.inside
 
 pub copy_rows-requires-clause-room : goal.copy_rows-requires-clause-room
-copy_rows-requires-clause-room c = let found : Found c.args.rows.now c.args.root c.in-Row.kind c.in-Row.x c.in-Row.y c.in-Row.size = row_found (sym c.row_at.ensures ∙ c.in-Row.is) in
-    let fits : (c.in-Row.size ≤ c.args.root + 1) × (c.args.root < length c.args.rows.now / row_width) = let a = c.requires.stands.at in let t = root a in (omega (arith, found_size found a), t.inside) in
+copy_rows-requires-clause-room c =
     c.requires.room
 
 pub returns : goal.returns

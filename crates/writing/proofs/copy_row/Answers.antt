@@ -19,7 +19,7 @@ next_lit-requires-clause-n_in_bounds c = let b = c.requires.begins in
     in_text _ c.requires.inside (word_found _ _ b.row b.is b) (sym c.shape_of.ensures ∙ c.in-Lit.is)
 
 pub next_lit-requires-clause-runs : goal.next_lit-requires-clause-runs
-next_lit-requires-clause-runs c = let b = c.requires.begins in
+next_lit-requires-clause-runs c =
     c.requires.runs
 
 pub returns-in_default-next_lit : goal.returns-in_default-next_lit

@@ -32,35 +32,26 @@ loop-from-init c = (refl, record { count = 0; most = omega arith; source = omega
 pub copy_row-requires-clause-begins : goal.copy_row-requires-clause-begins
 copy_row-requires-clause-begins c = let l = c.loop-from in
     let q = l.invariant.1 in
-    let d = moving_length q.moving in
-    let e = pending_length q.moving.pending in
     record { row = c.args.i + q.count; is = q.source; within = omega (arith, q.source, q.most, l.invariant.0, c.requires.n_in_bounds) }
 
 pub copy_row-requires-clause-begins_2 : goal.copy_row-requires-clause-begins_2
 copy_row-requires-clause-begins_2 c = let l = c.loop-from in
     let q = l.invariant.1 in
     let d = moving_length q.moving in
-    let e = pending_length q.moving.pending in
     record { row = c.args.p.rows + q.count; is = q.target; within = omega (arith, q.source, l.invariant.0, d, c.requires.room.rows, c.if-out-first.false) }
 
 pub copy_row-requires-clause-inside : goal.copy_row-requires-clause-inside
-copy_row-requires-clause-inside c = let l = c.loop-from in
-    let q = l.invariant.1 in
-    let d = moving_length q.moving in
-    let e = pending_length q.moving.pending in
+copy_row-requires-clause-inside c =
     c.requires.inside
 
 pub copy_row-requires-clause-runs : goal.copy_row-requires-clause-runs
 copy_row-requires-clause-runs c = let l = c.loop-from in
     let q = l.invariant.1 in
-    let d = moving_length q.moving in
-    let e = pending_length q.moving.pending in
     pending_runs q.moving.pending
 
 pub copy_row-requires-clause-lits_len_bound : goal.copy_row-requires-clause-lits_len_bound
 copy_row-requires-clause-lits_len_bound c = let l = c.loop-from in
     let q = l.invariant.1 in
-    let d = moving_length q.moving in
     let e = pending_length q.moving.pending in
     omega (arith, e, c.requires.room.areas.bytes)
 

@@ -3,7 +3,7 @@ use borrow.Author.Rules.{rules}
 use Rattle.writing.proofs.keep.Goals as goal
 
 pub copy-requires-clause-inside : goal.copy-requires-clause-inside
-copy-requires-clause-inside c = let r = c.requires.ready in
+copy-requires-clause-inside c =
     c.requires.inside
 
 pub copy-requires-clause-stands : goal.copy-requires-clause-stands
