@@ -2,7 +2,7 @@
 use mathlib.Core.Path.{◌≡◌, refl, sym, ap, ◌∙◌, subst}
 use mathlib.Core.Bool.{Bool, true, false, ◌||◌}
 use mathlib.Core.List.{List, [], ◌∷◌}
-use Prim.Native.Nat.{ℕ, ◌*◌, ◌≤◌, ◌<◌}
+use Prim.Native.Nat.{ℕ, ◌≤◌, ◌<◌}
 use native.Mathlib.Omega.{arith}
 use borrow.Author.Tests.{le-ltb, lt-ltb}
 use lib.ListN.{length}
@@ -26,10 +26,10 @@ use Rattle.skipper.specs.declared.Readings.TheVariants.{Read, Again}
 use Rattle.skipper.proofs.Words.{same_words}
 use Rattle.refusals.specs.Check.{lent, Passed, Checked}
 use Rattle.refusals.specs.declared.Verdict.{Verdict}
-use Rattle.refusals.specs.declared.Verdict.TheVariants.{Fine, Refused}
+use Rattle.refusals.specs.declared.Verdict.TheVariants.{Refused}
 use Rattle.refusals.proofs.Verdicts.{counts}
 use Rattle.refusals.proofs.Answers.{call_refused, call_passed}
-use Rattle.admission.specs.Ready.{short_of, Ready, Tried, Admitted}
+use Rattle.admission.specs.Ready.{short_of, Tried, Admitted}
 
 -- refusal 1, test by test
 pub short_rules : (a b c : ℕ) → a < full_rules → true ≡ short_of a b c

@@ -6,7 +6,7 @@ use native.Mathlib.Omega.{arith}
 use lib.ListN.{length, take, drop, length-append, take-append-drop}
 use lib.Seq.{sets-eq, length-take-le}
 use Rattle.grammar.specs.Numbers.{row_width}
-use Rattle.grammar.specs.Tree.{Bin, bin_kind, Expr, bin, size}
+use Rattle.grammar.specs.Tree.{Bin, bin_kind, Expr, size}
 use Rattle.grammar.specs.Rows.{Span, row, flat}
 use Rattle.rows.specs.Rows.{At}
 use Rattle.rows.proofs.Laws.{size_pos, length_flat, Found, found_size}

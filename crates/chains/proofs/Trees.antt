@@ -1,13 +1,13 @@
 -- Laws of chains and of trees one after the other: rows, text, packing, and the rows that close a chain. Assumes nothing.
-use mathlib.Core.Path.{◌≡◌, refl, sym, ap, ◌∙◌}
+use mathlib.Core.Path.{◌≡◌, refl, sym, ap}
 use mathlib.Core.List.{List, [], ◌∷◌, ◌++◌, append_assoc, append-nil}
 use Prim.Native.Nat.{ℕ, suc, ◌+◌, ◌*◌, ◌<◌}
 use native.Mathlib.Nat.{add-zero}
 use native.Mathlib.Omega.{arith}
 use lib.ListN.{length, length-append}
 use Rattle.grammar.specs.Numbers.{row_width}
-use Rattle.grammar.specs.Tree.{Bin, Seq, bin_kind, Expr, E, bin, size}
-use Rattle.grammar.specs.Rows.{Span, row, flat}
+use Rattle.grammar.specs.Tree.{Bin, Seq, Expr, E, bin, size}
+use Rattle.grammar.specs.Rows.{Span, flat}
 use Rattle.grammar.specs.Text.{text_of, packed}
 use Rattle.grammar.specs.Steps.{nest}
 use Rattle.grammar.proofs.Packing.{packed_size}

@@ -12,7 +12,7 @@ use Rattle.grammar.specs.Basic.{Bytes}
 use Rattle.grammar.specs.Numbers.{rule_width, rows_word, row_width}
 use Rattle.grammar.specs.Text.{bytes_at}
 use Rattle.grammar.specs.Table.{Words}
-use Rattle.rows.specs.Rows.{row_at, kind_at, x_at, y_at}
+use Rattle.rows.specs.Rows.{row_at}
 use Rattle.rows.specs.declared.Lookup.TheVariants.{Refused}
 use Rattle.rows.proofs.Laws.{Found, row_there}
 use Rattle.names.specs.Names.{rows_before}

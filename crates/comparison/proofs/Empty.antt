@@ -8,16 +8,14 @@ use native.Mathlib.Omega.{arith}
 use borrow.Author.Tests.{eqb-true, eq-eqb}
 use lib.Dec.{eqb}
 use Rattle.grammar.specs.Basic.{Bytes, same_bytes, member}
-use Rattle.grammar.specs.Tree.{E}
 use Rattle.grammar.specs.Table.{Rule, Table}
 use Rattle.grammar.specs.Refusals.{repeated, names}
 use Rattle.grammar.proofs.Logic.{none_some, some_eq, same_bytes_eq, eq_same_bytes, or_left, or_right}
 use Rattle.rows.specs.Rows.{cells}
 use Rattle.refusals.proofs.Fours.{neither_left, neither_right}
-use Rattle.comparison.specs.Compare.{Entry, only_left, only_right, lookup, type_entry, tree_entry, first_unlike, common_entries, rule_entries, left_entries, right_entries, compare}
+use Rattle.comparison.specs.Compare.{Entry, only_right, lookup, tree_entry, first_unlike, common_entries, rule_entries, left_entries, right_entries, compare}
 use Rattle.comparison.specs.Same.{Among, here, there, SameRules}
 use Rattle.comparison.proofs.Rows.{trees_none, none_trees}
-use Rattle.comparison.proofs.Most.{turned}
 
 cons_nil : {A P : Type 0} {a : A} {l : List A} → (a ∷ l) ≡ [] → P
 cons_nil h = let z : ◌≡◌ {A = ℕ} 0 1 = cc in absurd (omega arith)

@@ -1,13 +1,13 @@
 -- Examples of the list and of the literal that is shown: one table, one theorem. Assumes nothing.
 use mathlib.Core.Path.{◌≡◌, refl}
-use mathlib.Core.List.{List, [], ◌∷◌, ◌++◌, map}
+use mathlib.Core.List.{List, [], ◌∷◌, map}
 use Prim.Native.Nat.{ℕ}
 use lib.ListN.{replicate}
 use Rattle.grammar.specs.Basic.{Bytes}
-use Rattle.grammar.specs.Table.{Atomic, Normal, Rule, Table, Words, words_of}
-use Rattle.grammar.specs.Tree.{E, Insens, lit, skip}
+use Rattle.grammar.specs.Table.{Atomic, Normal, Table, Words, words_of}
+use Rattle.grammar.specs.Tree.{Insens, lit, skip}
 use Rattle.grammar.specs.Refusals.{full_marks}
-use Rattle.grammar.proofs.Notation.{◌~◌, ◌or◌, a, b, c, id, r, rule, str, x, y, z}
+use Rattle.grammar.proofs.Notation.{◌~◌, ◌or◌, a, b, c, id, r, rule, str, x, y}
 use Rattle.refusals.specs.Check.{lent}
 use Rattle.comparison.specs.Shown.{Shown, nothing, shown}
 use Rattle.comparison.specs.Compare.{Entry, only_left, other_type, other_tree, only_right, Compared, compare, compare_words, full_list, listed, refused}

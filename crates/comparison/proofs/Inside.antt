@@ -12,7 +12,7 @@ use Rattle.grammar.specs.Numbers.{rule_width, rows_word, row_width}
 use Rattle.grammar.specs.Table.{Words}
 use Rattle.rows.specs.Rows.{kind_at, x_at, y_at}
 use Rattle.names.specs.Names.{rows_before}
-use Rattle.comparison.specs.Shown.{Shown, nothing, is_lit, lit_at, shown_in, shown}
+use Rattle.comparison.specs.Shown.{nothing, is_lit, lit_at, shown_in, shown}
 
 -- a row's literal, a rule's, a side's
 lit_inside : (w : List ℕ) (t : Bytes) (i : ℕ) → (lit_at w t i).offset + (lit_at w t i).length' ≤ length t

@@ -1,5 +1,5 @@
 -- How long the list can be: as long as both tables together. Assumes nothing.
-use mathlib.Core.Path.{◌≡◌, refl, sym, ap, ◌∙◌, subst}
+use mathlib.Core.Path.{◌≡◌, refl, sym, ap, ◌∙◌}
 use mathlib.Core.Bool.{Bool, true, false, ◌||◌, cond}
 use mathlib.Core.List.{List, [], ◌∷◌, ◌++◌}
 use mathlib.Core.Option.{Option, none, some}
@@ -13,7 +13,7 @@ use Rattle.grammar.specs.Refusals.{repeated, names}
 use Rattle.grammar.proofs.Logic.{none_some, same_bytes_eq, eq_same_bytes}
 use Rattle.rows.specs.Rows.{cells}
 use Rattle.refusals.proofs.Fours.{neither_left, neither_right}
-use Rattle.comparison.specs.Compare.{Entry, lookup, type_entry, tree_entry, first_unlike, common_entries, rule_entries, left_entries, right_entries, compare}
+use Rattle.comparison.specs.Compare.{lookup, type_entry, tree_entry, first_unlike, common_entries, rule_entries, left_entries, right_entries, compare}
 
 abbrev one : Bool → ℕ
 one b = cond b 1 0

@@ -12,7 +12,7 @@ use Rattle.grammar.specs.Basic.{Bytes, or_else}
 use Rattle.grammar.specs.Rows.{Span}
 use Rattle.grammar.specs.Table.{Table, Words, resolve_rule, resolve_table}
 use Rattle.grammar.specs.Reading.{read_table, input_kinds}
-use Rattle.grammar.specs.Refusals.{max_rules, short_marks, repeated, names, bad_counts, bad_text, bad_names, zero_counts}
+use Rattle.grammar.specs.Refusals.{max_rules, short_marks, repeated, names, bad_counts, bad_text, bad_names}
 use Rattle.grammar.proofs.Words.{table_is}
 use Rattle.names.proofs.Finding.{rule_count}
 use Rattle.refusals.specs.Check.{lowest, lowest_read, lowest_named, table_of}

@@ -6,13 +6,11 @@ use Prim.Native.Nat.{ℕ, zero, suc, ◌+◌, ◌≤◌, ◌<◌}
 use native.Mathlib.Omega.{arith}
 use borrow.Author.Tests.{le-ltb, ne_eqb}
 use lib.Dec.{ltb, eqb}
-use lib.ListN.{length, length-append}
 use Rattle.grammar.specs.Basic.{Bytes}
 use Rattle.grammar.specs.Tree.{Lit, Str, Insens, Ident, Fixed, Range, PeekSlice, PeekFrom, Un, PosPred, NegPred, Opt, Rep, RepOnce, Push, RestoreOnErr, RepExact, RepMin, RepMax, RepMinMax, Bin, Seq, Choice, lit_kind, fixed_head, un_head, bin_kind, Expr, E, lit, fixed, skip, un, bin, size}
 use Rattle.grammar.specs.Text.{text_of}
 use Rattle.grammar.specs.Table.{Atomic}
 use Rattle.grammar.specs.Steps.{concat?, or_same, concatenate}
-use Rattle.grammar.proofs.TopDown.{size_pos}
 use Rattle.concatenator.specs.Joins.{joins_of}
 
 -- the kind of a root

@@ -9,7 +9,7 @@ use lib.ListN.{length, take, length-append}
 use lib.Seq.{length-take-le}
 use Rattle.grammar.specs.Numbers.{row_width}
 use Rattle.grammar.specs.Basic.{Bytes}
-use Rattle.grammar.specs.Tree.{E, Expr, Bin, lit, fixed, skip, un, bin, lit_kind, bin_kind, size}
+use Rattle.grammar.specs.Tree.{E, Expr, Bin, lit, fixed, skip, un, bin, bin_kind}
 use Rattle.grammar.specs.Rows.{Span, flat}
 use Rattle.grammar.specs.Text.{resolve, text_of, packed}
 use Rattle.grammar.specs.Table.{Atomic}
@@ -21,7 +21,7 @@ use Rattle.rows.proofs.Views.{TwoView, shape_in}
 use Rattle.writing.specs.declared.Place.{Place}
 use Rattle.writing.specs.declared.Wrote.{Wrote}
 use Rattle.writing.specs.declared.Wrote.TheVariants.{Done, Full}
-use Rattle.writing.specs.Writes.{Areas, Fits, stored}
+use Rattle.writing.specs.Writes.{Areas, Fits}
 use Rattle.writing.specs.Keeps.{Kept, KeptAnswer, Ready}
 use Rattle.writing.proofs.Runs.{take_stored, take_front}
 use Rattle.writing.proofs.Puts.{row_set}

@@ -1,40 +1,32 @@
 -- A reading with its place, arm by arm: a leaf, a name, a Choice. Assumes nothing.
-use mathlib.Core.Path.{◌≡◌, refl, sym, ap, ap₂, ◌∙◌, subst}
-use mathlib.Core.Bool.{Bool, true, false, cond}
-use mathlib.Core.List.{List, [], ◌∷◌, ◌++◌, append-nil, append_assoc}
+use mathlib.Core.Path.{◌≡◌, refl, sym, ap, ◌∙◌, subst}
+use mathlib.Core.Bool.{true, false}
+use mathlib.Core.List.{List, [], ◌∷◌, ◌++◌, append-nil}
 use mathlib.Core.Option.{none, some}
-use Prim.Native.Nat.{ℕ, zero, suc, ◌+◌, ◌-◌, ◌*◌, ◌/◌, ◌≤◌, ◌<◌}
+use Prim.Native.Nat.{ℕ, suc, ◌+◌, ◌-◌, ◌≤◌}
 use native.Mathlib.Omega.{arith}
-use lib.Dec.{eqb}
-use lib.ListN.{length, get_or, set}
-use Rattle.grammar.specs.Numbers.{rule_width, mark_width}
-use Rattle.grammar.specs.Basic.{Bytes, member}
+use lib.ListN.{length}
+use Rattle.grammar.specs.Basic.{Bytes}
 use Rattle.grammar.specs.Tree.{Str, Insens, Ident, Seq, Choice, Expr, lit, fixed, skip, un, bin, size}
 use Rattle.grammar.specs.Rows.{Span}
 use Rattle.grammar.specs.Text.{bytes_at, resolve}
-use Rattle.grammar.specs.Table.{Table, rule_words, resolve_table}
+use Rattle.grammar.specs.Table.{Table, resolve_table}
 use Rattle.grammar.specs.Lists.{read_left, read_in}
 use Rattle.rows.specs.Rows.{At, size_at}
 use Rattle.rows.proofs.Laws.{Found, root}
 use Rattle.rows.proofs.Cells.{lit_shape, size_resolve}
 use Rattle.rows.proofs.Views.{as_lit, lit_is, two_is}
-use Rattle.names.specs.Names.{First, Finds, memory_word}
-use Rattle.names.specs.declared.Found.TheVariants.{Nothing}
-use Rattle.names.proofs.Finding.{There}
 use Rattle.writing.specs.Writes.{stored}
 use Rattle.writing.proofs.Runs.{stored_none}
-use Rattle.skipper.specs.Memory.{Known}
-use Rattle.skipper.specs.Lends.{marks_of, ReadsOf}
 use Rattle.skipper.proofs.Memories.{left_mono}
 use Rattle.skipper.proofs.Leaf as leaf
 use Rattle.explanation.specs.Ends.{Ends, reads, unknown, other, again, first, Look, ends_left, ends_in, Place, place_from, opened, ends_name}
 use Rattle.explanation.specs.Explain.{ends_told}
 use Rattle.explanation.proofs.Ties.{end_of}
 use Rattle.explainer.specs.declared.Told.{Told}
-use Rattle.explainer.specs.Reading.{memory_at, Clean, Steady, Within, Way, Says, ReadSo}
+use Rattle.explainer.specs.Reading.{Clean, Way, Says, ReadSo}
 use Rattle.explainer.proofs.Marks.{steady_none, steady_more}
-use Rattle.explainer.proofs.Places.{place_at, place_missing}
-use Rattle.explainer.proofs.Opens.{within_grows, read_once}
+use Rattle.explainer.proofs.Opens.{within_grows}
 
 -- ---- what an answer says
 

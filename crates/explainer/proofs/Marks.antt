@@ -1,14 +1,14 @@
 -- The marks while rules are read: how many were not, and what a written memory leaves alone. Assumes nothing.
-use mathlib.Core.Path.{◌≡◌, refl, sym, ap, ◌∙◌}
+use mathlib.Core.Path.{◌≡◌, refl, ap, ◌∙◌}
 use mathlib.Core.Bool.{Bool, true, false, cond}
-use mathlib.Core.List.{List, [], ◌∷◌}
-use Prim.Native.Nat.{ℕ, zero, suc, ◌+◌, ◌*◌, ◌/◌, ◌≤◌, ◌<◌}
+use mathlib.Core.List.{List}
+use Prim.Native.Nat.{ℕ, zero, suc, ◌+◌, ◌*◌, ◌≤◌, ◌<◌}
 use native.Mathlib.Decide.{dec_le}
 use native.Mathlib.Omega.{arith}
 use lib.Dec.{eqb}
-use lib.ListN.{length, get_or, set, length-set}
+use lib.ListN.{length, set}
 use lib.Seq.{get_or-set_same, get_or-set_other}
-use Rattle.grammar.specs.Numbers.{rule_width, mark_width}
+use Rattle.grammar.specs.Numbers.{mark_width}
 use Rattle.grammar.specs.Basic.{Bytes}
 use Rattle.grammar.proofs.Logic.{eqb_eq}
 use Rattle.names.specs.Names.{memory_word, ways_word, end_word}

@@ -1,13 +1,13 @@
 -- A reading with its place, arm by arm: what a name finds. Assumes nothing.
-use mathlib.Core.Path.{◌≡◌, refl, sym, ap, ap₂, ◌∙◌, subst}
+use mathlib.Core.Path.{◌≡◌, refl, sym, ap, ◌∙◌, subst}
 use mathlib.Core.Bool.{Bool, true, false, cond}
 use mathlib.Core.List.{List, [], ◌∷◌, ◌++◌, append_assoc}
-use mathlib.Core.Option.{none, some}
+use mathlib.Core.Option.{some}
 use Prim.Native.Nat.{ℕ, zero, suc, ◌+◌, ◌-◌, ◌*◌, ◌/◌, ◌≤◌, ◌<◌}
 use native.Mathlib.Omega.{arith}
 use borrow.Author.Tests.{eq-eqb, ne_eqb}
 use lib.Dec.{eqb}
-use lib.ListN.{length, get_or, set}
+use lib.ListN.{length, set}
 use Rattle.grammar.specs.Numbers.{rule_width, mark_width}
 use Rattle.grammar.specs.Basic.{Bytes}
 use Rattle.grammar.specs.Rows.{Span}
@@ -16,17 +16,16 @@ use Rattle.grammar.specs.Table.{Table, rule_words, resolve_table}
 use Rattle.grammar.specs.Lists.{read_in}
 use Rattle.names.specs.Names.{First, Finds, rows_before, memory_word}
 use Rattle.names.specs.declared.Found.TheVariants.{Nothing}
-use Rattle.names.proofs.Finding.{There, rule_count}
+use Rattle.names.proofs.Finding.{There}
 use Rattle.writing.specs.Writes.{stored}
-use Rattle.writing.proofs.Runs.{length_stored}
 use Rattle.skipper.specs.Lends.{index_from, marks_of}
 use Rattle.skipper.proofs.Leaf as leaf
 use Rattle.skipper.proofs.Rules.{sets_mark, index_first}
 use Rattle.explanation.specs.Ends.{Ends, reads, unknown, other, again, Place, ends_in}
 use Rattle.explanation.specs.Explain.{ends_told}
 use Rattle.explainer.specs.declared.Told.{Told}
-use Rattle.explainer.specs.Reading.{memory_at, Clean, Steady, Within, Way, Says, ReadSo}
-use Rattle.explainer.proofs.Marks.{memory_same, steady_none, steady_more, steady_set, clean_set}
+use Rattle.explainer.specs.Reading.{memory_at, Clean, Steady, Way, Says, ReadSo}
+use Rattle.explainer.proofs.Marks.{steady_none, steady_more, steady_set, clean_set}
 use Rattle.explainer.proofs.Places.{place_at, place_missing}
 use Rattle.explainer.proofs.Opens.{known_opens, not_member, within_opens, read_once}
 use Rattle.explainer.proofs.Arms.{Numbered, says_reads, says_unknown, says_again, says_by, three_reads, ends_unknown, ends_met, ends_step}

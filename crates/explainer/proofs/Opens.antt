@@ -1,17 +1,17 @@
 -- The rules that are being read: one more, and the same after a reading to a list. Assumes nothing.
-use mathlib.Core.Path.{◌≡◌, refl, sym, ap, ◌∙◌, subst}
-use mathlib.Core.Bool.{Bool, true, false, ◌||◌}
-use mathlib.Core.List.{List, [], ◌∷◌, ◌++◌, append-nil}
+use mathlib.Core.Path.{◌≡◌, refl, sym, ap, ◌∙◌}
+use mathlib.Core.Bool.{Bool, true, false}
+use mathlib.Core.List.{List, [], ◌∷◌, ◌++◌}
 use mathlib.Core.Logic.{⊎_elim}
 use mathlib.Core.Option.{some}
 use Prim.Native.Nat.{ℕ, suc, ◌+◌, ◌-◌, ◌≤◌, ◌<◌}
 use native.Mathlib.Omega.{arith}
 use lib.ListN.{length, length-append}
 use Rattle.grammar.specs.Basic.{Bytes, member, same_bytes, bytes_discrete}
-use Rattle.grammar.specs.Table.{Table, find}
+use Rattle.grammar.specs.Table.{Table}
 use Rattle.grammar.specs.Lists.{read_name}
 use Rattle.grammar.proofs.Logic.{or_case, or_left, or_right, same_bytes_eq, eq_same_bytes}
-use Rattle.grammar.proofs.Readings.{unopened, read_name_enough}
+use Rattle.grammar.proofs.Readings.{read_name_enough}
 use Rattle.skipper.specs.Memory.{Marks, Known, Opened, Grows, Unfinished, mark_of, name_list}
 use Rattle.skipper.proofs.Memories.{Sets}
 use Rattle.explanation.specs.Ends.{Place, place_from, ends_name}

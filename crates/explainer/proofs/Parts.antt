@@ -1,16 +1,16 @@
 -- The parts of a loop, row by row, and what is told of a reading that began with nothing open. Assumes nothing.
-use mathlib.Core.Path.{◌≡◌, refl, sym, ap, ap₂, ◌∙◌, subst}
+use mathlib.Core.Path.{◌≡◌, refl, sym, ap, ◌∙◌}
 use mathlib.Core.Bool.{false≢true, Bool, true, false, cond}
 use mathlib.Core.List.{List, [], ◌∷◌, ◌++◌}
-use mathlib.Core.Option.{none, some}
-use Prim.Native.Nat.{ℕ, suc, ◌+◌, ◌-◌, ◌≤◌, ◌<◌}
+use mathlib.Core.Option.{some}
+use Prim.Native.Nat.{ℕ, ◌-◌, ◌≤◌}
 use native.Mathlib.Nat.{zero-add}
 use native.Mathlib.Omega.{arith}
 use lib.ListN.{length, drop}
 use lib.Seq.{sets-eq}
 use Rattle.grammar.specs.Numbers.{k_rep}
-use Rattle.grammar.specs.Basic.{Bytes, member}
-use Rattle.grammar.specs.Tree.{Rep, NegPred, Seq, E, Expr, as_rep, as_seq, as_neg_pred, as_ident}
+use Rattle.grammar.specs.Basic.{Bytes}
+use Rattle.grammar.specs.Tree.{Rep, NegPred, Seq, E, Expr, as_rep, as_seq, as_ident}
 use Rattle.grammar.specs.Rows.{Span}
 use Rattle.grammar.specs.Text.{resolve}
 use Rattle.grammar.specs.Table.{Table}
@@ -18,7 +18,6 @@ use Rattle.grammar.specs.Optimize.{over}
 use Rattle.grammar.proofs.Logic.{some_eq}
 use Rattle.grammar.proofs.Readings.{unopened}
 use Rattle.rows.specs.Rows.{At, kind_at, x_at, y_at, size_at}
-use Rattle.rows.proofs.Laws.{root}
 use Rattle.rows.proofs.Cells.{un_shape, bin_shape}
 use Rattle.rows.proofs.Views.{OneView, TwoView, as_one, as_two, one_some, one_none, two_some, two_none}
 use Rattle.writing.specs.Writes.{stored}

@@ -1,7 +1,7 @@
 -- The rule that a name finds, as the definitions place it. Assumes nothing.
 use mathlib.Core.Path.{◌≡◌, refl, sym, ap, ap₂, ◌∙◌, subst}
 use mathlib.Core.Bool.{Bool, true, false, ◌||◌, cond}
-use mathlib.Core.List.{List, [], ◌∷◌, ◌++◌}
+use mathlib.Core.List.{List, [], ◌∷◌}
 use mathlib.Core.Option.{Option, none, some}
 use Prim.Native.Nat.{ℕ, zero, suc, ◌+◌, ◌-◌, ◌*◌, ◌/◌, ◌≤◌, ◌<◌}
 use native.Mathlib.Nat.{add-zero}
@@ -18,7 +18,7 @@ use Rattle.grammar.proofs.Readings.{unopened}
 use Rattle.rows.proofs.Cells.{size_resolve}
 use Rattle.names.specs.Names.{name_of, rows_before, First, Finds}
 use Rattle.names.specs.declared.Found.TheVariants.{Nothing}
-use Rattle.names.proofs.Finding.{There, rule_count, name_is, differ}
+use Rattle.names.proofs.Finding.{There, differ}
 use Rattle.skipper.proofs.Leaf.{name_missing}
 use Rattle.explanation.specs.Ends.{Place, place_from}
 use Rattle.explanation.proofs.Ties.{place_some}

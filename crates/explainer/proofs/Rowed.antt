@@ -1,16 +1,15 @@
 -- The answer for a row, by what is found there: its rule, its kind, whether step 1 changes its tree, its rule's type. Assumes nothing.
 use mathlib.Core.Path.{◌≡◌, refl, sym, ap, ◌∙◌, subst}
-use mathlib.Core.Bool.{Bool, true, false, not, cond, false≢true}
+use mathlib.Core.Bool.{Bool, true, false, false≢true}
 use mathlib.Core.List.{List, []}
-use mathlib.Core.Option.{none, some}
+use mathlib.Core.Option.{some}
 use Prim.Native.Nat.{ℕ, zero, suc, ◌+◌, ◌-◌, ◌*◌, ◌/◌, ◌≤◌, ◌<◌}
 use native.Mathlib.Decide.{dec_le}
 use native.Mathlib.Omega.{arith}
 use borrow.Author.Tests.{eq-eqb, ne_eqb}
-use lib.Dec.{eqb}
-use lib.ListN.{length, get_or, get_elem?}
+use lib.ListN.{length, get_or}
 use Rattle.grammar.specs.Numbers.{rule_width, type_word, rows_word, row_width, k_rep}
-use Rattle.grammar.specs.Basic.{Bytes, same_bytes}
+use Rattle.grammar.specs.Basic.{Bytes}
 use Rattle.grammar.specs.Tree.{E, Expr, size, any_node, as_rep, as_seq, same}
 use Rattle.grammar.specs.Rows.{Span}
 use Rattle.grammar.specs.Text.{resolve}
@@ -20,12 +19,12 @@ use Rattle.grammar.proofs.Logic.{same_eq, eq_same}
 use Rattle.rows.specs.Rows.{At, Stands, kind_at}
 use Rattle.rows.proofs.Views.{one_some, one_none}
 use Rattle.names.specs.Names.{rows_before}
-use Rattle.names.proofs.Finding.{There, there, rule_count, rule_words_lem, rows_before_all, length_rows, body_at}
+use Rattle.names.proofs.Finding.{There, rule_count, rule_words_lem, rows_before_all, length_rows, body_at}
 use Rattle.scans.proofs.Laws.{rows_stand}
 use Rattle.skipper.specs.Lends.{Lent}
 use Rattle.skipper.proofs.Leaf.{read_found_lem, rule_there}
 use Rattle.explanation.specs.Ends.{ends_in, ends_name}
-use Rattle.explanation.specs.Explain.{Answer, not_rep, regroup, not_atomic, Node, node_from, of_seq, of_rep, of_node, explain}
+use Rattle.explanation.specs.Explain.{not_rep, regroup, not_atomic, node_from, of_seq, explain}
 use Rattle.explanation.proofs.Nests.{nests_at, flat_still, still_flat}
 use Rattle.explainer.proofs.Nodes.{node_in, node_past}
 use Rattle.explainer.proofs.Parts.{rep}

@@ -1,15 +1,15 @@
 -- Examples of the answers: one table, one theorem. Assumes nothing.
 use mathlib.Core.Path.{◌≡◌, refl}
-use mathlib.Core.List.{List, [], ◌∷◌, ◌++◌, map}
+use mathlib.Core.List.{List, [], ◌∷◌, map}
 use Prim.Native.Nat.{ℕ, zero, suc, ◌+◌}
 use lib.ListN.{replicate}
 use Rattle.grammar.specs.Basic.{Bytes}
-use Rattle.grammar.specs.Table.{Atomic, Normal, Rule, Table, Words, words_of}
+use Rattle.grammar.specs.Table.{Atomic, Normal, Table, Words, words_of}
 use Rattle.grammar.specs.Tree.{Insens, NegPred, Range, Rep, fixed, lit, skip, un}
 use Rattle.grammar.specs.Lists.{ANY}
 use Rattle.grammar.specs.Refusals.{full_marks}
 use Rattle.grammar.proofs.Notation.{◌~◌, ◌or◌, a, b, c, id, r, rule, str, until, x, y, z}
-use Rattle.explanation.specs.Ends.{Ends, reads, unknown, other, again}
+use Rattle.explanation.specs.Ends.{reads, unknown, other, again}
 use Rattle.explanation.specs.Explain.{Answer, not_rep, regroup, not_atomic, not_seq, not_neg_pred, not_any, ends, explain, Explained, told, plain, refused, explain_words, full_list}
 
 -- an example: a table, a row and its answer; words and the whole answer

@@ -1,5 +1,5 @@
 -- The reason is the first in reading order: every side of a Choice that is read before it reads to a list. Assumes nothing.
-use mathlib.Core.Path.{◌≡◌, refl, sym, ◌∙◌}
+use mathlib.Core.Path.{◌≡◌, refl, ◌∙◌}
 use mathlib.Core.List.{List, [], ◌∷◌}
 use Prim.Native.Nat.{ℕ, ◌-◌}
 use Rattle.grammar.specs.Tree.{E, Seq, Choice, lit, fixed, skip, un, bin, size}

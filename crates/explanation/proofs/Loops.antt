@@ -1,20 +1,20 @@
 -- The answer is step 2's own: 0 exactly where `skip?` of the row's tree is a Skip, 9 exactly where its reading is again. Assumes nothing.
 use mathlib.Core.Path.{◌≡◌, refl, sym, ap, ◌∙◌, subst}
-use mathlib.Core.Bool.{Bool, true, false, not, cond}
-use mathlib.Core.List.{List, [], ◌∷◌}
+use mathlib.Core.Bool.{Bool, true, false, cond}
+use mathlib.Core.List.{List, []}
 use mathlib.Core.Option.{Option, none, some}
 use Prim.Native.Nat.{ℕ, suc, ◌-◌}
 use native.Mathlib.Omega.{arith}
 use lib.ListN.{length}
 use Rattle.grammar.specs.Basic.{Bytes, same_bytes, ◌>>=◌, test}
-use Rattle.grammar.specs.Tree.{E, skip, as_rep, as_seq, as_neg_pred, as_ident, same}
+use Rattle.grammar.specs.Tree.{E, skip, as_rep, as_seq, as_neg_pred, as_ident}
 use Rattle.grammar.specs.Table.{Table}
-use Rattle.grammar.specs.Lists.{Reading, nothing, strings, read_in, read_name, skip_list, ANY, loop_over, as_strings}
+use Rattle.grammar.specs.Lists.{Reading, nothing, strings, read_name, skip_list, ANY, loop_over}
 use Rattle.grammar.specs.Steps.{rotate, is_atomic, skip?}
 use Rattle.grammar.proofs.Logic.{none_some, some_eq, eq_same}
 use Rattle.explanation.specs.Ends as places
 use Rattle.explanation.specs.Ends.{Ends, reads, unknown, other, ends_in, ends_name}
-use Rattle.explanation.specs.Explain.{Answer, not_seq, not_neg_pred, not_any, ends, Node, node_from, of_right, of_left, of_seq, of_rep, of_node, explain}
+use Rattle.explanation.specs.Explain.{Answer, not_seq, not_neg_pred, not_any, ends, Node, node_from, of_right, of_left, of_seq, explain}
 use Rattle.explanation.proofs.Ties.{mark_of, end_of, in_alike, name_alike}
 
 -- ---- the parts of a loop

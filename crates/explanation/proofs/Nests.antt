@@ -1,10 +1,10 @@
 -- Step 1 changes a tree exactly where a Seq has a Seq on its left, or a Choice a Choice. Assumes nothing.
-use mathlib.Core.Path.{◌≡◌, refl, sym, ap, ◌∙◌, subst}
+use mathlib.Core.Path.{◌≡◌, refl, sym, ap, ◌∙◌}
 use mathlib.Core.Bool.{Bool, true, false, ◌||◌}
 use Prim.Native.Nat.{ℕ, zero, suc, ◌+◌, ◌≤◌}
 use native.Mathlib.Omega.{arith}
 use Rattle.grammar.specs.Tree.{Bin, Seq, Choice, E, lit, fixed, skip, un, bin, size, any_node}
-use Rattle.grammar.specs.Steps.{children, rotated, rotate_at, rotate}
+use Rattle.grammar.specs.Steps.{children, rotated, rotate}
 use Rattle.grammar.proofs.TopDown.{rotated_size, rotate_step_lem}
 use Rattle.refusals.proofs.Fours.{neither_left, neither_right}
 

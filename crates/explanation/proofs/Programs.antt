@@ -3,7 +3,7 @@ use mathlib.Core.Path.{◌≡◌, refl, sym, ap, ◌∙◌}
 use mathlib.Core.List.{List, [], ◌∷◌}
 use Prim.Native.Nat.{ℕ, ◌<◌}
 use native.Mathlib.Omega.{arith}
-use lib.ListN.{length, replicate}
+use lib.ListN.{replicate}
 use Rattle.grammar.specs.Table.{Normal, Atomic, Words, words_of}
 use Rattle.grammar.specs.Refusals.{full_marks}
 use Rattle.grammar.specs.Tree.{Insens, lit}

@@ -6,9 +6,9 @@ use mathlib.Core.Option.{Option, none, some}
 use Prim.Native.Nat.{ℕ, zero, suc, ◌+◌, ◌-◌, ◌≤◌}
 use native.Mathlib.Omega.{arith}
 use lib.Dec.{eqb}
-use Rattle.grammar.specs.Basic.{Bytes, same_bytes, member, any}
+use Rattle.grammar.specs.Basic.{Bytes, same_bytes, member}
 use Rattle.grammar.specs.Tree.{Lit, Str, Insens, Ident, Seq, Choice, E, lit, fixed, skip, un, bin, size}
-use Rattle.grammar.specs.Table.{Rule, Table, find}
+use Rattle.grammar.specs.Table.{Table, find}
 use Rattle.grammar.specs.Lists.{Reading, nothing, strings, again, and_then, read_lit, read_left, read_in, read_found, read_name}
 use Rattle.grammar.proofs.Logic.{none_some, some_eq, eqb_eq, eqb_self, same_bytes_eq, eq_same_bytes}
 use Rattle.explanation.specs.Ends as places

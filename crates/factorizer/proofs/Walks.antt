@@ -7,7 +7,7 @@ use native.Mathlib.Omega.{arith}
 use lib.ListN.{length}
 use Rattle.grammar.specs.Numbers.{row_width}
 use Rattle.grammar.specs.Basic.{Bytes}
-use Rattle.grammar.specs.Tree.{E, Expr, Head, Un, Bin, Choice, lit, fixed, skip, un, bin, un_head, bin_kind}
+use Rattle.grammar.specs.Tree.{E, Expr, Head, Un, Bin, lit, fixed, skip, un, bin, un_head, bin_kind}
 use Rattle.grammar.specs.Rows.{Span}
 use Rattle.grammar.specs.Text.{resolve}
 use Rattle.rows.proofs.Views.{shape_in}

@@ -2,9 +2,9 @@
 -- loop: so refusal 7 can be decided on the table as it was given. Assumes nothing.
 use mathlib.Core.Path.{◌≡◌, refl, sym, ap, ap₂, ◌∙◌}
 use mathlib.Core.Bool.{Bool, true, false, ◌&&◌, ◌||◌}
-use mathlib.Core.List.{List, [], ◌∷◌, append_assoc}
+use mathlib.Core.List.{[], ◌∷◌, append_assoc}
 use mathlib.Core.Option.{Option, none, some}
-use Prim.Native.Nat.{ℕ, suc}
+use Prim.Native.Nat.{suc}
 use lib.ListN.{length}
 use Rattle.grammar.specs.Basic.{Bytes, ◌>>=◌, any, same_bytes, test}
 use Rattle.grammar.specs.Tree.{Bin, Choice, E, Lit, NegPred, Opt, PosPred, Push, Rep, RepExact, RepMax, RepMin, RepMinMax, RepOnce, RestoreOnErr, Seq, Un, any_node, as_ident, as_neg_pred, as_rep, as_seq, bin, fixed, lit, skip, un}

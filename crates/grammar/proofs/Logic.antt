@@ -1,5 +1,5 @@
 -- Small laws of options, tests and equality. Assumes nothing.
-use mathlib.Core.Path.{◌≡◌, refl, ap, ap₂, subst}
+use mathlib.Core.Path.{◌≡◌, refl, subst}
 use mathlib.Core.Bool.{false≢true, Bool, true, false, ◌&&◌, ◌||◌, not, cond}
 use mathlib.Core.List.{List, [], ◌∷◌}
 use mathlib.Core.Option.{Option, none, some}

@@ -1,12 +1,10 @@
 -- Laws of skip lists: the fuel of a reading is enough; a list that is read to its end hides no other reading. Assumes nothing.
-use mathlib.Core.Path.{◌≡◌, refl, sym, ap, ap₂, ◌∙◌, subst, fun_ext}
-use mathlib.Core.Bool.{false≢true, Bool, true, false, ◌&&◌, ◌||◌, not, cond}
-use mathlib.Core.List.{List, [], ◌∷◌, ◌++◌}
+use mathlib.Core.Path.{◌≡◌, refl, ap, ap₂, ◌∙◌, fun_ext}
+use mathlib.Core.Bool.{Bool, true, false, ◌||◌, cond}
+use mathlib.Core.List.{List, [], ◌∷◌}
 use mathlib.Core.Option.{Option, none, some}
 use Prim.Native.Nat.{ℕ, zero, suc, ◌+◌, ◌≤◌, ◌<◌}
 use native.Mathlib.Omega.{arith}
-use lib.ListN.{length}
-use lib.Dec.{eqb}
 use Rattle.grammar.specs.Basic.{Bytes, member, same_bytes}
 use Rattle.grammar.specs.Tree.{Choice, E, Seq, any_node, bin, fixed, lit, skip, un}
 use Rattle.grammar.specs.Table.{Table, find}

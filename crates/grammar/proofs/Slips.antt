@@ -1,12 +1,11 @@
 -- What a wrong definition would pass: the order of the refusals, and the "Easy slips" of 01. One table, one theorem. Assumes nothing.
-use mathlib.Core.Path.{◌≡◌, refl, ap}
+use mathlib.Core.Path.{◌≡◌, refl}
 use mathlib.Core.List.{List, [], ◌∷◌, ◌++◌, map}
 use Prim.Native.Nat.{ℕ, zero, suc, ◌+◌, ◌≤◌, ◌<◌}
 use lib.ListN.{replicate}
-use lib.Dec.{ltb, eqb-suc-zero, lit<}
+use lib.Dec.{eqb-suc-zero, lit<}
 use borrow.Author.Tests.{lt-ltb}
 use native.Mathlib.Omega.{arith}
-use mathlib.Core.Bool.{Bool, ◌||◌, true}
 use Rattle.grammar.specs.Basic.{Bytes}
 use Rattle.grammar.specs.Tree.{E, Insens, Range, RepExact, RepMax, RepMinMax, fixed, lit, size, skip, un}
 use Rattle.grammar.specs.Table.{Atomic, Normal, Table, Words, row_count}

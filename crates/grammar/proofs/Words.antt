@@ -9,7 +9,7 @@ use native.Mathlib.Omega.{arith}
 use lib.ListN.{length, take, drop, length-append, take-append-drop}
 use lib.Seq.{take_at, drop_at}
 use lib.Dec.{eqb, leb}
-use Rattle.grammar.specs.Numbers.{rule_width, row_width}
+use Rattle.grammar.specs.Numbers.{row_width}
 use Rattle.grammar.specs.Basic.{◌>>=◌, test}
 use Rattle.grammar.specs.Tree.{Bin, Choice, Expr, Fixed, Head, Ident, Insens, Lit, NegPred, Opt, PeekFrom, PeekSlice, PosPred, Push, Range, Rep, RepExact, RepMax, RepMin, RepMinMax, RepOnce, RestoreOnErr, Seq, Str, Un, as_str, bin, bin_kind, fixed, fixed_head, lit, lit_kind, size, skip, un, un_head}
 use Rattle.grammar.specs.Rows.{Span, flat, row, str_rows}

@@ -16,7 +16,7 @@ use Rattle.rows.proofs.Laws.{length_flat, size_pos}
 use Rattle.writing.specs.declared.Place.{Place}
 use Rattle.writing.specs.declared.Wrote.{Wrote}
 use Rattle.writing.specs.declared.Wrote.TheVariants.{Done, Full}
-use Rattle.writing.specs.Writes.{RowAnswer, stored}
+use Rattle.writing.specs.Writes.{RowAnswer}
 use Rattle.writing.specs.Keeps.{KeptAnswer}
 use Rattle.writing.proofs.Runs.{take_stored}
 use Rattle.writing.proofs.Keeps.{resolve_packed, within_packed}

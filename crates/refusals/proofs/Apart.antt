@@ -1,6 +1,6 @@
 -- Refusal 5 over words: no two names equal and none reserved is what the definition asks of the table's names. Assumes nothing.
 use mathlib.Core.Path.{◌≡◌, refl, sym, ap, ap₂, ◌∙◌}
-use mathlib.Core.Bool.{false≢true, Bool, true, false, ◌||◌}
+use mathlib.Core.Bool.{false≢true, false, ◌||◌}
 use mathlib.Core.List.{List, [], ◌∷◌}
 use mathlib.Core.Option.{some}
 use Prim.Native.Nat.{ℕ, zero, suc, ◌/◌, ◌<◌}
@@ -16,7 +16,7 @@ use Rattle.grammar.proofs.Logic.{eq_same_bytes, none_some, some_eq}
 use Rattle.names.specs.Names.{name_of, AllIndexed, Twice}
 use Rattle.names.proofs.Index.{names_apart}
 use Rattle.names.proofs.Finding.{differ, There, there, inside_table, name_is, rule_count}
-use Rattle.refusals.specs.Bytes.{NameFree, NamesFine}
+use Rattle.refusals.specs.Bytes.{NamesFine}
 use Rattle.refusals.proofs.Fours.{neither_left, neither_right}
 
 module _ (text : Bytes) where

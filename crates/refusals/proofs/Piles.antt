@@ -19,7 +19,6 @@ use Rattle.grammar.proofs.Logic.{and_left, and_right}
 use Rattle.grammar.proofs.Words.{Allowed, StrsAllowed, tree_back, tree_is, tree_allowed}
 use Rattle.rows.specs.Rows.{kind_at, x_at, y_at, size_at, shape_of, At, AtStrs, Tells}
 use Rattle.rows.specs.declared.Shape.{Shape}
-use Rattle.rows.specs.declared.Shape.TheVariants.{Lit}
 use Rattle.rows.proofs.Laws.{head_of, below, flat_root, length_flat, size_pos, root, root_found, at_un, at_left_lem, at_right_lem, at_strs, at_first, at_others}
 use Rattle.rows.proofs.Cells.{lit_shape, fixed_shape, un_shape, bin_shape, skip_shape, tells_iff, tells_eqb}
 use Rattle.rows.proofs.Views.{shape_in, shape_in_lem, as_lit, lit_is}

@@ -11,7 +11,7 @@ use Rattle.grammar.specs.Numbers.{rule_width, length_word, row_width}
 use Rattle.grammar.specs.Basic.{Bytes, any}
 use Rattle.grammar.specs.Tree as tree
 use Rattle.grammar.specs.Tree.{Un, Bin, Expr, lit, fixed, skip, un, bin, lit_kind, fixed_head, un_head, bin_kind, lits, any_node}
-use Rattle.grammar.specs.Rows.{Span, row, str_rows, flat}
+use Rattle.grammar.specs.Rows.{Span, str_rows, flat}
 use Rattle.grammar.specs.Text.{resolve}
 use Rattle.grammar.specs.Table.{Table, rule_words, row_words, resolve_table}
 use Rattle.grammar.specs.Refusals.{bad_span, bad_range, bad_text, zero_un, zero_count, zero_counts}

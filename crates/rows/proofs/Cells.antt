@@ -2,7 +2,7 @@
 use mathlib.Core.Path.{◌≡◌, refl, sym, ap, subst, subst₂, ◌∙◌}
 use mathlib.Core.Bool.{Bool, true, false, cond}
 use mathlib.Core.List.{List, [], ◌∷◌, ◌++◌, append_assoc, append-nil, map}
-use Prim.Native.Nat.{ℕ, zero, suc, ◌+◌, ◌-◌, ◌*◌, ◌/◌, ◌≤◌, ◌<◌}
+use Prim.Native.Nat.{ℕ, zero, suc, ◌+◌, ◌-◌, ◌*◌, ◌≤◌, ◌<◌}
 use native.Mathlib.Omega.{arith}
 use native.Mathlib.Nat.{zero-add, add-zero}
 use borrow.Author.Tests.{eqb-true, eqb-false}
@@ -17,12 +17,12 @@ use Rattle.grammar.specs.Rows.{Span, str_rows, flat}
 use Rattle.grammar.specs.Text.{bytes_at, resolve}
 use Rattle.rows.specs.declared.Shape.{Shape}
 use Rattle.rows.specs.declared.Shape.TheVariants.{Lit, Num, One, Two, Skips}
-use Rattle.rows.specs.Rows.{kind_at, x_at, y_at, At, Cell, cell, str_cells, head_cell, cells, shape_of, cell_by, cell_of, cell_at, Tells, LitInside, Inside}
+use Rattle.rows.specs.Rows.{kind_at, x_at, y_at, At, Cell, cell, str_cells, cells, shape_of, cell_by, cell_of, cell_at, Tells, LitInside, Inside}
 use types.Run.{OneOf}
 use denote.Enum.Declared.{tag_of}
 use mathlib.Core.Logic.{⊎_elim}
 use Rattle.rows.specs.contracts.Shape as shape
-use Rattle.rows.proofs.Laws.{head_of, length_flat, flat_at, Found, length_part}
+use Rattle.rows.proofs.Laws.{length_flat, flat_at, Found, length_part}
 
 -- ---- the shapes of the kinds, and the tags back from their words
 

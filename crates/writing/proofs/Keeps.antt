@@ -2,14 +2,13 @@
 use mathlib.Core.Path.{◌≡◌, refl, sym, ap, subst, ◌∙◌}
 use mathlib.Core.List.{List, [], ◌∷◌, ◌++◌, append_assoc, map}
 use Prim.Native.Nat.{ℕ, ◌+◌, ◌-◌, ◌*◌, ◌/◌, ◌≤◌, ◌<◌}
-use native.Mathlib.Nat.{add-zero}
 use native.Mathlib.Omega.{arith}
 use lib.ListN.{length, take, drop, length-append, length-take, take-append-drop}
 use lib.Seq.{length-take-le, take-append_seam, drop-append_seam}
 use Rattle.grammar.specs.Numbers.{row_width}
 use Rattle.grammar.specs.Basic.{Bytes}
 use Rattle.grammar.specs.Tree.{Head, Un, Bin, Expr, E, lit, fixed, skip, un, bin, un_head, bin_kind, size}
-use Rattle.grammar.specs.Rows.{Span, row, flat}
+use Rattle.grammar.specs.Rows.{Span, flat}
 use Rattle.grammar.specs.Text.{bytes_at, resolve, joined, text_of, spans, packed}
 use Rattle.rows.specs.Rows.{At, AllWithin, Within, StandsIn}
 use Rattle.rows.proofs.Laws.{size_pos}
@@ -17,7 +16,7 @@ use Rattle.rows.proofs.Views.{OneView, TwoView, left_at, at_unique}
 use Rattle.writing.specs.declared.Place.{Place}
 use Rattle.writing.specs.declared.Wrote.{Wrote}
 use Rattle.writing.specs.declared.Wrote.TheVariants.{Done, Full}
-use Rattle.writing.specs.Writes.{stored, Areas, Room, RowPut, Fits, Written, Answer}
+use Rattle.writing.specs.Writes.{Areas, Room, RowPut, Fits, Written, Answer}
 use Rattle.writing.specs.Keeps.{Kept, KeptAnswer, Ready}
 use Rattle.writing.proofs.Runs.{take_stored, take_front}
 use Rattle.writing.proofs.Trees.{size_packed, length_packed, fits_un, fits_left}

@@ -1,7 +1,7 @@
 -- A tree is written by its children and then its root's row; strings, by one after the other. Assumes nothing.
 use mathlib.Core.Path.{◌≡◌, refl, sym, ap, subst, ◌∙◌}
 use mathlib.Core.List.{List, [], ◌∷◌, ◌++◌, append_assoc, append-nil}
-use Prim.Native.Nat.{ℕ, ◌+◌, ◌*◌, ◌/◌, ◌≤◌, ◌<◌}
+use Prim.Native.Nat.{ℕ, ◌+◌, ◌*◌, ◌/◌, ◌≤◌}
 use native.Mathlib.Nat.{add-zero}
 use native.Mathlib.Omega.{arith}
 use lib.ListN.{length, length-append}
@@ -15,7 +15,7 @@ use Rattle.writing.specs.declared.Place.{Place}
 use Rattle.writing.specs.declared.Wrote.{Wrote}
 use Rattle.writing.specs.declared.Wrote.TheVariants.{Done, Full}
 use Rattle.writing.specs.Writes.{Areas, Room, Fit, Put, PutAnswer, RowAnswer, LitAnswer, StrsAnswer, Fits, Written, Answer}
-use Rattle.writing.proofs.Puts.{put_none, put_row, put_then, put_out, put_lits, put_room, fit_front}
+use Rattle.writing.proofs.Puts.{put_none, put_row, put_then, put_out, put_lits, put_room}
 
 -- ---- packed words
 

@@ -4,7 +4,6 @@ use lib.Dec.{ltb}
 use Rattle.admission.specs.Ready.{short_of}
 use Rattle.admission.proofs.Trying.{any_first, any_second, any_third, any_fourth}
 use Rattle.grammar.specs.Refusals.{full_marks}
-use borrow.Author.Rules.{rules}
 use Rattle.admission.proofs.any_short.Goals as goal
 
 pub returns-then-is_short : goal.returns-then-is_short

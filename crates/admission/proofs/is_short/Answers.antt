@@ -1,6 +1,5 @@
 -- src/lib.rt:17:9
 use Rattle.admission.proofs.Trying.{short_rules, short_rows, short_text}
-use borrow.Author.Rules.{rules}
 use Rattle.admission.proofs.is_short.Goals as goal
 
 pub returns-then-rules-lt-FULL_RULES : goal.returns-then-rules-lt-FULL_RULES

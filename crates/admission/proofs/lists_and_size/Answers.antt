@@ -1,6 +1,5 @@
 -- src/lib.rt:57:11
 use Rattle.admission.proofs.Trying.{passed_given, passed_few, tried_again, tried_large, tried_fine}
-use borrow.Author.Rules.{rules}
 use Rattle.admission.proofs.lists_and_size.Goals as goal
 
 pub read_lists-requires : goal.read_lists-requires

@@ -1,6 +1,5 @@
 -- src/lib.rt:75:9
 use Rattle.admission.proofs.Trying.{admitted_short, admitted_tried, checked_tried}
-use borrow.Author.Rules.{rules}
 use Rattle.admission.proofs.refusal.Goals as goal
 
 pub returns-then-short : goal.returns-then-short

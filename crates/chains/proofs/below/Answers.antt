@@ -8,7 +8,6 @@ use Rattle.rows.proofs.Laws.{root, found_row}
 use Rattle.rows.proofs.Cells.{tells_yes, tells_no}
 use Rattle.rows.proofs.Views.{as_one}
 use Rattle.chains.proofs.Runs.{Downs, down_none, down_more, down_stop, down_end}
-use borrow.Author.Rules.{rules}
 use Rattle.chains.proofs.below.Goals as goal
 
 there : {w : List ℕ} {i base : ℕ} → Stands w i → Downs w i base → base < length w / row_width

@@ -1,12 +1,8 @@
-use mathlib.Core.Path.{◌≡◌, refl, sym, ◌∙◌}
+use mathlib.Core.Path.{refl, sym, ◌∙◌}
 use Prim.Native.Nat.{◌-◌}
 use native.Mathlib.Omega.{arith}
 use Rattle.rows.proofs.Laws.{Found, found_size, row_found, root_there, size_pos}
-use Rattle.chains.proofs.Closes.{last_at, Turns, turn_none, turn_all, turns_more, same_words, left_at, first_least, first_most, read_most}
-use Rattle.chains.proofs.close.Reads as reads
-use Rattle.rows.proofs.row_at.Reads as row-at-reads
-use Rattle.writing.proofs.set_row.Reads as set-row-reads
-use borrow.Author.Rules.{rules}
+use Rattle.chains.proofs.Closes.{last_at, turn_none, turn_all, turns_more, same_words, left_at, first_least, first_most, read_most}
 use Rattle.chains.proofs.close.Goals as goal
 
 pub overflow_sub-last : goal.overflow_sub-last

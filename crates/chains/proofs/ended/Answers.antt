@@ -1,5 +1,4 @@
 -- `ended` meets its contract, by what it requires. Assumes nothing.
-use borrow.Author.Rules.{rules}
 use Rattle.chains.proofs.ended.Goals as goal
 
 pub returns-in-Full : goal.returns-in-Full

@@ -4,7 +4,6 @@ use native.Mathlib.Omega.{arith}
 use Rattle.rows.specs.Rows.{kind_at}
 use Rattle.rows.proofs.Laws.{root}
 use Rattle.rows.proofs.Cells.{tells_eqb}
-use borrow.Author.Rules.{rules}
 use Rattle.chains.proofs.forks.Goals as goal
 
 pub overflow_mul-result : goal.overflow_mul-result

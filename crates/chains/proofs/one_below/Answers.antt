@@ -1,7 +1,5 @@
 -- `one_below` meets its contract: by the shape. Assumes nothing.
 use mathlib.Core.Path.{sym, ◌∙◌}
-use Rattle.chains.proofs.Runs.{else_one}
-use borrow.Author.Rules.{rules}
 use Rattle.chains.proofs.one_below.Goals as goal
 
 pub returns-in-One : goal.returns-in-One

@@ -1,14 +1,10 @@
-use mathlib.Core.Path.{◌≡◌, refl, sym, ap, ◌∙◌}
-use Prim.Native.Nat.{◌+◌, ◌-◌, ◌/◌, ◌≤◌, ◌<◌}
+use mathlib.Core.Path.{refl, sym, ◌∙◌}
+use Prim.Native.Nat.{◌+◌, ◌/◌, ◌<◌}
 use native.Mathlib.Omega.{arith}
 use lib.ListN.{length}
 use Rattle.grammar.specs.Numbers.{row_width}
 use Rattle.rows.proofs.Laws.{Found, row_found, row_there, root}
-use Rattle.chains.proofs.Runs.{Up, up_none, up_more, up_all}
-use Rattle.chains.proofs.raise.Reads as reads
-use Rattle.rows.proofs.row_at.Reads as row-at-reads
-use Rattle.writing.proofs.set_row.Reads as set-row-reads
-use borrow.Author.Rules.{rules}
+use Rattle.chains.proofs.Runs.{up_none, up_more, up_all}
 use Rattle.chains.proofs.raise.Goals as goal
 
 pub loop-i-init : goal.loop-i-init

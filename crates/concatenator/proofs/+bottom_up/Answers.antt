@@ -5,8 +5,7 @@ use Rattle.grammar.specs.Rows.{Span}
 use Rattle.grammar.specs.Text.{resolve}
 use Rattle.grammar.specs.Table.{Atomic}
 use Rattle.grammar.specs.Steps.{concatenate}
-use Rattle.rows.specs.Rows.{At, Stands, kind_at, size_at}
-use borrow.Author.Tests.{not-true, not-false}
+use Rattle.rows.specs.Rows.{At, Stands, kind_at}
 use Rattle.rows.proofs.Laws.{root}
 use Rattle.rows.proofs.Cells.{tells_yes, tells_no}
 use Rattle.writing.specs.Keeps.{Kept, KeptAnswer}
@@ -16,9 +15,7 @@ use Rattle.chains.proofs.Runs.{low_at}
 use Rattle.chains.proofs.Walks.{Forked, as_forked, ready_left, same_areas, leaf_below, leaf_kept, run_raisable, run_kept}
 use Rattle.concatenator.proofs.Concats.{concat_un, concat_size}
 use Rattle.concatenator.proofs.Nodes.{concat_leaf, right_ready, two_order, two_kept}
-use Prim.Native.Nat.{ℕ, ◌<◌}
 use lib.ListN.{length}
-use borrow.Author.Rules.{rules}
 use Rattle.concatenator.proofs.+bottom_up.Goals as goal
 
 abbrev cat : E → E

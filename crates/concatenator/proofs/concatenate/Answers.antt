@@ -2,7 +2,6 @@
 use mathlib.Core.Path.{sym}
 use Rattle.chains.proofs.Walks.{kept_same}
 use Rattle.concatenator.proofs.Nodes.{concat_atomic, concat_other}
-use borrow.Author.Rules.{rules}
 use Rattle.concatenator.proofs.concatenate.Goals as goal
 
 pub returns-then-rule-eq-ATOMIC : goal.returns-then-rule-eq-ATOMIC

@@ -1,11 +1,10 @@
 -- `finish` meets its contract: by the two roots that it reads, one literal's row or the node's own. Assumes nothing.
 -- the points that are looked back to
-use mathlib.Core.Path.{◌≡◌, refl, sym, ◌∙◌}
+use mathlib.Core.Path.{refl, sym, ◌∙◌}
 use Prim.Native.Nat.{◌-◌}
 use native.Mathlib.Omega.{arith}
 use Rattle.rows.proofs.Laws.{Found, row_found, row_there}
 use Rattle.concatenator.proofs.Ends.{ends_lit_lem, ends_row}
-use borrow.Author.Rules.{rules}
 use Rattle.concatenator.proofs.finish.Goals as goal
 
 pub returns-in_default : goal.returns-in_default

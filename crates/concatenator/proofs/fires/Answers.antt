@@ -8,7 +8,6 @@ use Rattle.rows.specs.Rows.{At, kind_at}
 use Rattle.rows.proofs.Laws.{root}
 use Rattle.rows.proofs.Views.{bin_half, SidesAt, sides_at}
 use Rattle.concatenator.proofs.Quiets.{seq_quiet}
-use borrow.Author.Rules.{rules}
 use Rattle.concatenator.proofs.fires.Goals as goal
 
 pub left_of-left-requires-clause-stands : goal.left_of-left-requires-clause-stands

@@ -1,7 +1,6 @@
 -- `joins` meets its contract: the tests that led to each answer. Assumes nothing.
 use borrow.Author.Tests.{lt-ltb, le-ltb, eq-eqb, ne_eqb}
 use Rattle.concatenator.specs.Joins.{joins_of}
-use borrow.Author.Rules.{rules}
 use Rattle.concatenator.proofs.joins.Goals as goal
 
 pub returns-then-kind-ne-SEQ : goal.returns-then-kind-ne-SEQ

@@ -1,8 +1,8 @@
-use mathlib.Core.Path.{◌≡◌, refl, sym, ap, ◌∙◌}
-use Prim.Native.Nat.{◌+◌, ◌-◌, ◌*◌, ◌^◌, ◌/◌, ◌≤◌}
+use mathlib.Core.Path.{refl, sym, ap, ◌∙◌}
+use Prim.Native.Nat.{◌+◌, ◌*◌, ◌/◌}
 use native.Mathlib.Omega.{arith}
-use lib.ListN.{length, get_or, set, length-set}
-use Rattle.grammar.specs.Numbers.{rule_width, row_width, mark_width}
+use lib.ListN.{length, length-set}
+use Rattle.grammar.specs.Numbers.{rule_width, mark_width}
 use Rattle.grammar.specs.Text.{bytes_at}
 use Rattle.rows.specs.Rows.{x_at, y_at}
 use Rattle.rows.proofs.Laws.{root}
@@ -11,10 +11,8 @@ use Rattle.skipper.proofs.Leaf.{read_found_lem, finds_at, finds_nothing, choice_
 use Rattle.explainer.proofs.Marks.{given_steady, steady_set, clean_set, unread_less}
 use Rattle.explainer.proofs.Arms.{arm_str, arm_other, arm_ident, arm_leaf, arm_stop}
 use Rattle.explainer.proofs.Named.{arm_unknown, arm_met, arm_done, arm_rule}
-use Rattle.explainer.specs.Reading.{memory_at, unread, Clean, Steady, Ready}
-use Rattle.explainer.proofs.Walks.{Walked, walk_starts, walk_left, walk_on}
+use Rattle.explainer.proofs.Walks.{walk_starts, walk_left, walk_on}
 use Prim.Native.Nat.{ℕ, ◌<◌}
-use borrow.Author.Rules.{rules}
 use Rattle.explainer.proofs.+read_in_read_leaf_read_rule.Goals as goal
 
 pub read_in-loop-left-init : goal.read_in-loop-left-init

@@ -1,20 +1,9 @@
 -- `read_in`, `read_leaf` and `read_rule` meet their contracts. Assumes nothing.
-use mathlib.Core.Path.{◌≡◌, refl, sym, ap, ◌∙◌}
-use Prim.Native.Nat.{◌+◌, ◌-◌, ◌*◌, ◌^◌, ◌/◌, ◌≤◌}
-use native.Mathlib.Omega.{arith}
-use lib.ListN.{length, get_or, set, length-set}
-use Rattle.grammar.specs.Numbers.{rule_width, row_width, mark_width}
-use Rattle.grammar.specs.Text.{bytes_at}
-use Rattle.rows.specs.Rows.{x_at, y_at}
-use Rattle.rows.proofs.Laws.{root}
-use Rattle.names.specs.Names.{First, memory_word}
-use Rattle.skipper.proofs.Leaf.{read_found_lem, finds_at, finds_nothing, choice_view, rule_there, rule_before, rule_end}
-use Rattle.explainer.proofs.Marks.{given_steady, steady_set, clean_set, unread_less}
-use Rattle.explainer.proofs.Arms.{arm_str, arm_other, arm_ident, arm_leaf, arm_stop}
-use Rattle.explainer.proofs.Named.{arm_unknown, arm_met, arm_done, arm_rule}
-use Rattle.explainer.specs.Reading.{memory_at, unread, Clean, Steady, Ready}
-use Rattle.explainer.proofs.Walks.{Walked, walk_starts, walk_left, walk_on}
-use Prim.Native.Nat.{ℕ, ◌<◌}
+use Prim.Native.Nat.{◌+◌, ◌*◌, ◌/◌}
+use lib.ListN.{length}
+use Rattle.grammar.specs.Numbers.{rule_width}
+use Rattle.explainer.specs.Reading.{unread}
+use Rattle.explainer.proofs.Walks.{Walked}
 use Rattle.explainer.proofs.+read_in_read_leaf_read_rule.Given as goal
 
 abbrev pub decreases-read_in : goal.decreases-read_in

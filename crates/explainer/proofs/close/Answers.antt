@@ -1,6 +1,5 @@
 -- `close` meets its contract, by the answer. Assumes nothing.
 use borrow.Author.Tests.{eq-eqb, ne_eqb}
-use borrow.Author.Rules.{rules}
 use Rattle.explainer.proofs.close.Goals as goal
 
 pub returns-then-answer-eq-BECOMES_SKIP : goal.returns-then-answer-eq-BECOMES_SKIP

@@ -11,7 +11,6 @@ use Rattle.refusals.specs.Check.{lent, lowest}
 use Rattle.refusals.proofs.Fours.{neither_left, neither_right}
 use Rattle.explanation.specs.Explain.{full_list}
 use Rattle.explainer.proofs.Wholes.{passed_fresh, passed_told, short_is, refused_is, answered_is}
-use borrow.Author.Rules.{rules}
 use Rattle.explainer.proofs.explain.Goals as goal
 
 pub returns-then-is_short : goal.returns-then-is_short

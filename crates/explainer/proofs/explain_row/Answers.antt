@@ -3,13 +3,12 @@ use mathlib.Core.Path.{◌≡◌, sym, ap, ◌∙◌}
 use Prim.Native.Nat.{◌/◌, ◌<◌}
 use native.Mathlib.Omega.{arith}
 use lib.ListN.{length}
-use Rattle.grammar.specs.Numbers.{rule_width, row_width}
+use Rattle.grammar.specs.Numbers.{rule_width}
 use Rattle.rows.specs.Rows.{Stands, kind_at}
 use Rattle.names.specs.Names.{rows_before}
 use Rattle.explanation.specs.Explain.{Answer, answer_told}
 use Rattle.explainer.proofs.Parts.{plain_told}
 use Rattle.explainer.proofs.Rowed.{Sited, sited, all_rows, row_stands, no_rep, rep_some, nests, not_atomic_lem, atomic, past}
-use borrow.Author.Rules.{rules}
 use Rattle.explainer.proofs.explain_row.Goals as goal
 
 pub returns-then-row-rows : goal.returns-then-row-rows

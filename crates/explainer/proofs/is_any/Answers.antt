@@ -12,7 +12,6 @@ use Rattle.rows.proofs.Laws.{root, found_row}
 use Rattle.rows.proofs.Cells.{in_text, lit_shape}
 use Rattle.rows.proofs.Views.{as_lit, lit_some, lit_none}
 use Rattle.explanation.specs.Explain.{of_right}
-use borrow.Author.Rules.{rules}
 use Rattle.explainer.proofs.is_any.Goals as goal
 
 pub kind_at-requires : goal.kind_at-requires

@@ -4,7 +4,6 @@ use lib.Dec.{ltb}
 use borrow.Author.Tests.{lt-ltb, le-ltb}
 use Rattle.grammar.proofs.Logic.{or_left}
 use Rattle.explanation.specs.Explain.{full_list}
-use borrow.Author.Rules.{rules}
 use Rattle.explainer.proofs.is_short.Goals as goal
 
 pub returns-then-list-lt-FULL_LIST : goal.returns-then-list-lt-FULL_LIST

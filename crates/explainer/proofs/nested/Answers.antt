@@ -1,13 +1,12 @@
 use mathlib.Core.Path.{◌≡◌, sym, ◌∙◌}
-use Prim.Native.Nat.{◌+◌, ◌-◌, ◌≤◌}
+use Prim.Native.Nat.{◌+◌, ◌-◌}
 use native.Mathlib.Omega.{arith}
 use Rattle.grammar.specs.Tree.{Expr, size}
 use Rattle.grammar.specs.Rows.{Span}
 use Rattle.rows.specs.Rows.{size_at, At, Stands}
 use Rattle.rows.proofs.Laws.{root}
 use Rattle.scans.proofs.Laws.{rows_stand}
-use Rattle.explainer.proofs.Scans.{FlatRows, flat_none, flat_more, flat_all, first_row, row_nests}
-use borrow.Author.Rules.{rules}
+use Rattle.explainer.proofs.Scans.{flat_none, flat_more, flat_all, first_row, row_nests}
 use Rattle.explainer.proofs.nested.Goals as goal
 
 pub overflow_add-end : goal.overflow_add-end

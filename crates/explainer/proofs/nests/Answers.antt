@@ -7,7 +7,6 @@ use Rattle.rows.specs.Rows.{kind_at}
 use Rattle.rows.proofs.Laws.{root}
 use Rattle.rows.proofs.Views.{as_pair, pair_left}
 use Rattle.explainer.proofs.Scans.{lone_flat, pair_nests}
-use borrow.Author.Rules.{rules}
 use Rattle.explainer.proofs.nests.Goals as goal
 
 pub kind_at-kind-requires : goal.kind_at-kind-requires

@@ -1,6 +1,5 @@
 -- `note` meets its contract, by the answer. Assumes nothing.
 use borrow.Author.Tests.{eq-eqb, ne_eqb}
-use borrow.Author.Rules.{rules}
 use Rattle.explainer.proofs.note.Goals as goal
 
 pub returns-then-answer-eq-MET_AGAIN : goal.returns-then-answer-eq-MET_AGAIN

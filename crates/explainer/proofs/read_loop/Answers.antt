@@ -1,10 +1,9 @@
 -- the points that are looked back to: the start, from where the child's kind is known; that, from where it is a Seq; its left side's row; that that is a NegPred
-use mathlib.Core.Path.{◌≡◌, refl, sym, ap, ap₂, ◌∙◌}
+use mathlib.Core.Path.{◌≡◌, sym, ap, ap₂, ◌∙◌}
 use mathlib.Core.List.{[]}
 use Prim.Native.Nat.{ℕ, suc, ◌-◌, ◌/◌}
 use native.Mathlib.Omega.{arith}
 use lib.ListN.{length}
-use borrow.Author.Tests.{not-true, not-false}
 use Rattle.grammar.specs.Text.{resolve}
 use Rattle.grammar.specs.Tree.{E}
 use Rattle.grammar.specs.Rows.{Span}
@@ -14,7 +13,6 @@ use Rattle.rows.proofs.Laws.{root}
 use Rattle.explanation.specs.Ends.{Ends, ends_in, ends_name}
 use Rattle.explanation.specs.Explain.{Answer, ends, answer_told, ends_told}
 use Rattle.explainer.proofs.Parts.{told_of, plain_told, within_none, rep, no_seq, seq, left_at, no_not, neg, with_not, no_any, is_any}
-use borrow.Author.Rules.{rules}
 use Rattle.explainer.proofs.read_loop.Goals as goal
 
 pub overflow_sub-seq : goal.overflow_sub-seq

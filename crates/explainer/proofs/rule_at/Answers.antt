@@ -3,7 +3,6 @@ use Rattle.grammar.specs.Tree.{Ident}
 use Rattle.rows.specs.Rows.{x_at, y_at}
 use Rattle.rows.proofs.Laws.{found_row}
 use Rattle.rows.proofs.Cells.{in_text, lit_shape}
-use borrow.Author.Rules.{rules}
 use Rattle.explainer.proofs.rule_at.Goals as goal
 
 pub find_rule-requires-clause-all_indexed : goal.find_rule-requires-clause-all_indexed

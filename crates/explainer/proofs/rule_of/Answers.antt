@@ -1,11 +1,10 @@
 use mathlib.Core.Path.{◌≡◌, ◌∙◌}
-use Prim.Native.Nat.{suc, ◌-◌, ◌/◌, ◌≤◌}
+use Prim.Native.Nat.{suc, ◌/◌, ◌≤◌}
 use native.Mathlib.Numerals.{add-one}
 use native.Mathlib.Omega.{arith}
 use lib.ListN.{length}
 use Rattle.grammar.specs.Numbers.{rule_width}
 use Rattle.names.specs.Names.{rows_before}
-use borrow.Author.Rules.{rules}
 use Rattle.explainer.proofs.rule_of.Goals as goal
 
 pub returns-then-row-wide : goal.returns-then-row-wide

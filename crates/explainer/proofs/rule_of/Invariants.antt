@@ -1,8 +1,5 @@
 -- The invariant: the row stands behind the rules passed. Assumes nothing.
-use mathlib.Core.Path.{◌≡◌, ◌∙◌}
-use Prim.Native.Nat.{suc, ◌-◌, ◌/◌, ◌≤◌}
-use native.Mathlib.Numerals.{add-one}
-use native.Mathlib.Omega.{arith}
+use Prim.Native.Nat.{◌-◌, ◌/◌, ◌≤◌}
 use lib.ListN.{length}
 use Rattle.grammar.specs.Numbers.{rule_width}
 use Rattle.names.specs.Names.{rows_before}

@@ -13,9 +13,7 @@ use Rattle.factorizer.specs.Factors.{factored}
 use Rattle.factorizer.specs.Plans.{TreeAt, NodeAt, PlanTold}
 use Rattle.factorizer.proofs.Factors.{factored_un, factored_size}
 use Rattle.factorizer.proofs.Walks.{factored_leaf}
-use Rattle.factorizer.proofs.Plans.{NoNode, tree_size, tree_one, tree_fits, base_run, base_tree, less_parts, told_parts, less_one, less_two, plan_tree, first_falls_lem, second_falls_lem, first_fits, second_fits, alone_kept, over_fits, over_order, over_kept}
-use Prim.Native.Nat.{ℕ, ◌<◌}
-use borrow.Author.Rules.{rules}
+use Rattle.factorizer.proofs.Plans.{NoNode, tree_one, tree_fits, base_run, base_tree, less_parts, told_parts, less_one, less_two, plan_tree, first_falls_lem, second_falls_lem, first_fits, second_fits, alone_kept, over_fits, over_order, over_kept}
 use Rattle.factorizer.proofs.+at.Goals as goal
 
 pub base_of-base-requires : goal.base_of-base-requires

@@ -1,7 +1,6 @@
 -- `base_of` meets its contract. Assumes nothing.
 use mathlib.Core.Path.{refl, sym, ◌∙◌}
 use mathlib.Core.Bool.{false≢true}
-use borrow.Author.Rules.{rules}
 use Rattle.factorizer.proofs.base_of.Goals as goal
 
 pub returns-then-two : goal.returns-then-two

@@ -3,7 +3,6 @@ use mathlib.Core.Bool.{false≢true}
 use Rattle.rows.proofs.Cells.{tells_yes, tells_no}
 use Rattle.factorizer.proofs.Splits.{told_split, told_other, stands_in, plain_heads, plain_tail, plain_first, plain_other}
 use borrow.Author.Tests.{not-true, not-false}
-use borrow.Author.Rules.{rules}
 use Rattle.factorizer.proofs.case_of.Goals as goal
 
 pub same_tree-requires-clause-stands_in : goal.same_tree-requires-clause-stands_in

@@ -1,7 +1,6 @@
 -- `factor` meets its contract: the tree of one row, in a rule of that type. Assumes nothing.
 use Rattle.factorizer.proofs.Factors.{factor_rule}
 use Rattle.factorizer.proofs.Plans.{tree_one}
-use borrow.Author.Rules.{rules}
 use Rattle.factorizer.proofs.factor.Goals as goal
 
 pub at-requires-clause-inside : goal.at-requires-clause-inside

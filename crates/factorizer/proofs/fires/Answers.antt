@@ -11,7 +11,6 @@ use Rattle.rows.proofs.Views.{bin_half, SidesAt, sides_at, two_none}
 use Rattle.factorizer.proofs.Splits.{plain_other}
 use Rattle.factorizer.proofs.Walks.{told_plain}
 use Rattle.factorizer.proofs.Quiets.{choice_idle}
-use borrow.Author.Rules.{rules}
 use Rattle.factorizer.proofs.fires.Goals as goal
 
 pub left_of-left-requires-clause-stands : goal.left_of-left-requires-clause-stands

@@ -8,7 +8,6 @@ use Rattle.writing.proofs.Keeps.{kept_done, kept_full}
 use Rattle.factorizer.proofs.Walks.{un_answer, bin_answer}
 use Rattle.chains.proofs.Walks.{kept_same}
 use Rattle.factorizer.proofs.Plans.{over_opt, over_choice, over_seq, opt_room, bin_room}
-use borrow.Author.Rules.{rules}
 use Rattle.factorizer.proofs.over.Goals as goal
 
 pub returns-in_default : goal.returns-in_default

@@ -1,7 +1,6 @@
 -- `plan_of` meets its contract, case by case. Assumes nothing.
 use Rattle.factorizer.proofs.Walks.{told_heads, told_tail, told_first, told_plain}
 use Rattle.factorizer.proofs.Plans.{seq_plan, choice_plan, heads_plan, tail_plan, first_plan, plain_plan}
-use borrow.Author.Rules.{rules}
 use Rattle.factorizer.proofs.plan_of.Goals as goal
 
 pub returns-then-kind-ne-CHOICE : goal.returns-then-kind-ne-CHOICE

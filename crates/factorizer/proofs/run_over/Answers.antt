@@ -1,6 +1,5 @@
 -- `run_over` meets its contract: a Choice of two has no run. Assumes nothing.
 use Rattle.factorizer.proofs.Plans.{pair_run}
-use borrow.Author.Rules.{rules}
 use Rattle.factorizer.proofs.run_over.Goals as goal
 
 pub returns-then-two : goal.returns-then-two

@@ -4,7 +4,6 @@ use Rattle.rows.specs.Rows.{kind_at}
 use Rattle.rows.proofs.Laws.{root}
 use Rattle.rows.proofs.Views.{as_pair, not_pair}
 use Rattle.factorizer.proofs.Plans.{two_node, not_two}
-use borrow.Author.Rules.{rules}
 use Rattle.factorizer.proofs.sides_of.Goals as goal
 
 pub overflow_mul-kind : goal.overflow_mul-kind

@@ -7,7 +7,6 @@ use Rattle.rows.specs.Rows.{At, kind_at}
 use Rattle.rows.proofs.Laws.{root, found_row}
 use Rattle.rows.proofs.Views.{bin_half, SidesAt, sides_at, two_none}
 use Rattle.factorizer.proofs.Splits.{seq_at}
-use borrow.Author.Rules.{rules}
 use Rattle.factorizer.proofs.split.Goals as goal
 
 pub overflow_mul-root : goal.overflow_mul-root

@@ -1,5 +1,4 @@
 use borrow.Author.Tests.{eq-eqb, ne_eqb}
-use borrow.Author.Rules.{rules}
 use Rattle.factorizer.proofs.tight_rule.Goals as goal
 
 pub returns-then-rule-eq-ATOMIC : goal.returns-then-rule-eq-ATOMIC

@@ -1,6 +1,5 @@
 -- `tree_sides` meets its contract. Assumes nothing.
 use Rattle.factorizer.proofs.Plans.{pair_node}
-use borrow.Author.Rules.{rules}
 use Rattle.factorizer.proofs.tree_sides.Goals as goal
 
 pub returns-then-two : goal.returns-then-two

@@ -1,6 +1,5 @@
 -- `untried` meets its contract. Assumes nothing.
 use Rattle.factorizer.proofs.Plans.{alone_plan, untried_plan, less_parts, told_parts}
-use borrow.Author.Rules.{rules}
 use Rattle.factorizer.proofs.untried.Goals as goal
 
 pub returns-in_default : goal.returns-in_default

@@ -4,8 +4,7 @@ use Rattle.grammar.specs.Tree.{E, Expr}
 use Rattle.grammar.specs.Rows.{Span}
 use Rattle.grammar.specs.Text.{resolve}
 use Rattle.grammar.specs.Steps as steps
-use Rattle.rows.specs.Rows.{At, Stands, kind_at, size_at}
-use borrow.Author.Tests.{not-true, not-false}
+use Rattle.rows.specs.Rows.{At, Stands, kind_at}
 use Rattle.rows.proofs.Laws.{root}
 use Rattle.rows.proofs.Cells.{tells_yes, tells_no}
 use Rattle.writing.specs.Keeps.{Kept, KeptAnswer}
@@ -15,9 +14,7 @@ use Rattle.chains.proofs.Runs.{low_at}
 use Rattle.chains.proofs.Walks.{Forked, as_forked, ready_left, same_areas, leaf_below, leaf_kept, run_raisable, run_kept}
 use Rattle.lister.proofs.Lists.{list_un}
 use Rattle.lister.proofs.Walks.{list_leaf, list_most, right_ready, two_pair, list_two}
-use Prim.Native.Nat.{ℕ, ◌<◌}
 use lib.ListN.{length}
-use borrow.Author.Rules.{rules}
 use Rattle.lister.proofs.+list.Goals as goal
 
 abbrev listed : E → E

@@ -3,7 +3,6 @@ use native.Mathlib.Omega.{arith}
 use Rattle.rows.proofs.Laws.{size_pos}
 use Rattle.lister.proofs.Pairs.{stands_first, stands_second}
 use Rattle.lister.proofs.Ends.{movable, ends_choice, ends_loop, ends_seq}
-use borrow.Author.Rules.{rules}
 use Rattle.lister.proofs.finish.Goals as goal
 
 pub returns-then-kind-ne-SEQ : goal.returns-then-kind-ne-SEQ

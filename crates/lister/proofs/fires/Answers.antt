@@ -10,7 +10,6 @@ use Rattle.rows.proofs.Insides.{stands_in}
 use Rattle.rows.proofs.Views.{bin_half, SidesAt, sides_at}
 use Rattle.lister.proofs.Looks.{no_rep}
 use Rattle.lister.proofs.Quiets.{seq_idle}
-use borrow.Author.Rules.{rules}
 use Rattle.lister.proofs.fires.Goals as goal
 
 pub left_of-left-requires-clause-stands : goal.left_of-left-requires-clause-stands

@@ -8,7 +8,6 @@ use Rattle.rows.specs.Rows.{At, kind_at}
 use Rattle.rows.proofs.Laws.{root}
 use Rattle.rows.proofs.Views.{bin_half, SidesAt, sides_at}
 use Rattle.lister.proofs.Looks.{RepOf, as_rep_lem, no_rep, no_seq, loops_tell}
-use borrow.Author.Rules.{rules}
 use Rattle.lister.proofs.loops.Goals as goal
 
 pub overflow_mul-i : goal.overflow_mul-i

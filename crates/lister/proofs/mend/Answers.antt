@@ -1,6 +1,5 @@
 -- the points that are looked back to
 use Rattle.lister.proofs.Moves.{mended}
-use borrow.Author.Rules.{rules}
 use Rattle.lister.proofs.mend.Goals as goal
 
 pub returns : goal.returns

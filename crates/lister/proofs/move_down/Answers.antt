@@ -1,10 +1,9 @@
 use mathlib.Core.Path.{◌≡◌, refl}
-use Prim.Native.Nat.{◌+◌, ◌-◌, ◌≤◌, ◌<◌}
+use Prim.Native.Nat.{◌+◌, ◌<◌}
 use native.Mathlib.Omega.{arith}
-use lib.ListN.{length, take, drop, length-set}
+use lib.ListN.{length, length-set}
 use Rattle.writing.specs.Writes.{stored}
 use Rattle.lister.proofs.Moves.{move_more}
-use borrow.Author.Rules.{rules}
 use Rattle.lister.proofs.move_down.Goals as goal
 
 pub loop-i-init : goal.loop-i-init

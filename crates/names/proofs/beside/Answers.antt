@@ -1,8 +1,4 @@
-use mathlib.Core.Path.{◌≡◌, refl, sym, ap, ap₂, subst, ◌∙◌}
-use Prim.Native.Nat.{ℕ, suc, ◌+◌, ◌-◌, ◌*◌, ◌/◌, ◌≤◌, ◌<◌}
 use native.Mathlib.Omega.{arith}
-use lib.ListN.{length, get_or}
-use Rattle.grammar.specs.Text.{bytes_at}
 use mathlib.Core.Bool.{true≢false}
 use Rattle.names.proofs.Index.{ends_inside, told_same, told_below, told_apart}
 use borrow.Author.Rules.{rules}

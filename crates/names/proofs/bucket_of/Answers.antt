@@ -1,7 +1,5 @@
 use native.Mathlib.Nat.{mod-lt}
-use native.Mathlib.Omega.{arith}
 use Rattle.names.proofs.Marks.{bucket_is}
-use borrow.Author.Rules.{rules}
 use Rattle.names.proofs.bucket_of.Goals as goal
 
 pub returns : goal.returns

@@ -1,6 +1,5 @@
 -- src/lib.rt:150:28
 use Rattle.names.proofs.Marks.{or_yes, or_no, or_last}
-use borrow.Author.Rules.{rules}
 use Rattle.names.proofs.changes_stack.Goals as goal
 
 pub returns-then-is_name : goal.returns-then-is_name

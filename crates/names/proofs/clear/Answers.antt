@@ -1,7 +1,5 @@
 use native.Mathlib.Omega.{arith}
-use Rattle.names.specs.Names.{halves}
 use Rattle.names.proofs.Index.{cleared}
-use borrow.Author.Rules.{rules}
 use Rattle.names.proofs.clear.Goals as goal
 
 pub returns : goal.returns

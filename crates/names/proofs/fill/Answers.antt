@@ -1,10 +1,9 @@
 use mathlib.Core.Path.{◌≡◌, refl, ap, ◌∙◌}
-use Prim.Native.Nat.{ℕ, ◌-◌, ◌≤◌}
+use Prim.Native.Nat.{ℕ}
 use native.Mathlib.Omega.{arith}
-use lib.ListN.{length, length-set}
+use lib.ListN.{length-set}
 use Rattle.names.specs.Names.{marked}
 use Rattle.names.proofs.Marks.{marked_step}
-use borrow.Author.Rules.{rules}
 use Rattle.names.proofs.fill.Goals as goal
 
 pub loop-i-init : goal.loop-i-init

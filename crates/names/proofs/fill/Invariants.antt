@@ -1,10 +1,8 @@
 -- The invariant: the marks passed are written. Assumes nothing.
-use mathlib.Core.Path.{◌≡◌, refl, ap, ◌∙◌}
-use Prim.Native.Nat.{ℕ, ◌-◌, ◌≤◌}
-use native.Mathlib.Omega.{arith}
-use lib.ListN.{length, length-set}
+use mathlib.Core.Path.{◌≡◌}
+use Prim.Native.Nat.{◌-◌, ◌≤◌}
+use lib.ListN.{length}
 use Rattle.names.specs.Names.{marked}
-use Rattle.names.proofs.Marks.{marked_step}
 use Rattle.names.proofs.fill.Given as goal
 
 abbrev pub invariant-loop-i : goal.invariant-loop-i

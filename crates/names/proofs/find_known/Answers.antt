@@ -3,7 +3,6 @@ use native.Mathlib.Omega.{arith}
 use lib.ListN.{length}
 use Rattle.grammar.specs.Numbers.{rule_width}
 use Rattle.names.proofs.Index.{found_known}
-use borrow.Author.Rules.{rules}
 use Rattle.names.proofs.find_known.Goals as goal
 
 pub spot_of-requires-clause-names_inside : goal.spot_of-requires-clause-names_inside

@@ -4,7 +4,6 @@ use lib.ListN.{length}
 use Rattle.grammar.specs.Numbers.{rule_width}
 use Rattle.rows.proofs.Cells.{tells_yes, tells_no}
 use Rattle.names.proofs.Index.{found, nothing}
-use borrow.Author.Rules.{rules}
 use Rattle.names.proofs.find_rule.Goals as goal
 
 pub returns-then-count-eq0 : goal.returns-then-count-eq0

@@ -1,8 +1,6 @@
 use Rattle.names.specs.Names.{halves, if_not, if_so}
 use Rattle.names.proofs.Index.{forked_is}
 use Prim.Native.Nat.{◌+◌, ◌*◌}
-use native.Mathlib.Omega.{arith}
-use borrow.Author.Rules.{rules}
 use Rattle.names.proofs.fork.Goals as goal
 
 pub returns : goal.returns

@@ -1,6 +1,5 @@
 use native.Mathlib.Omega.{arith}
 use Rattle.names.proofs.Index.{goes_same, goes_other}
-use borrow.Author.Rules.{rules}
 use Rattle.names.proofs.go_on.Goals as goal
 
 pub same_symbol-requires : goal.same_symbol-requires

@@ -1,6 +1,4 @@
-use native.Mathlib.Omega.{arith}
 use Rattle.names.proofs.Index.{half_low, half_high}
-use borrow.Author.Rules.{rules}
 use Rattle.names.proofs.half.Goals as goal
 
 pub returns-then-h-eq0 : goal.returns-then-h-eq0

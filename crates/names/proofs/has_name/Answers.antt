@@ -2,7 +2,6 @@
 use mathlib.Core.Path.{◌∙◌, sym}
 use native.Mathlib.Omega.{arith}
 use Rattle.names.proofs.Marks.{parts_differ}
-use borrow.Author.Rules.{rules}
 use Rattle.names.proofs.has_name.Goals as goal
 
 pub returns-then-wide-n : goal.returns-then-wide-n

@@ -1,10 +1,9 @@
-use mathlib.Core.Path.{◌≡◌, sym, ◌∙◌, ap}
-use Prim.Native.Nat.{ℕ, ◌+◌, ◌-◌, ◌*◌, ◌%◌, ◌^◌, ◌≤◌, ◌<◌}
+use mathlib.Core.Path.{sym, ◌∙◌, ap}
+use Prim.Native.Nat.{ℕ, ◌+◌, ◌-◌, ◌*◌, ◌%◌, ◌^◌}
 use native.Mathlib.Omega.{arith}
 use Rattle.grammar.specs.Text.{bytes_at}
 use Rattle.names.specs.Names.{hash_from}
 use Rattle.names.proofs.Marks.{hash_start, hash_step, hash_end}
-use borrow.Author.Rules.{rules}
 use Rattle.names.proofs.hash_bytes.Goals as goal
 
 pub loop-i-init : goal.loop-i-init

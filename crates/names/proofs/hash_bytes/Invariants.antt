@@ -1,10 +1,8 @@
 -- The invariant: the hash so far, carried on over the bytes that are left, is the hash of the whole. Assumes nothing.
-use mathlib.Core.Path.{◌≡◌, sym, ◌∙◌, ap}
-use Prim.Native.Nat.{ℕ, ◌+◌, ◌-◌, ◌*◌, ◌%◌, ◌^◌, ◌≤◌, ◌<◌}
-use native.Mathlib.Omega.{arith}
+use mathlib.Core.Path.{◌≡◌}
+use Prim.Native.Nat.{◌+◌, ◌-◌, ◌%◌, ◌^◌, ◌≤◌, ◌<◌}
 use Rattle.grammar.specs.Text.{bytes_at}
 use Rattle.names.specs.Names.{hash_from}
-use Rattle.names.proofs.Marks.{hash_start, hash_step, hash_end}
 use Rattle.names.proofs.hash_bytes.Given as goal
 
 abbrev pub invariant-loop-i : goal.invariant-loop-i

@@ -1,7 +1,6 @@
 use mathlib.Core.Bool.{true≢false}
 use native.Mathlib.Omega.{arith}
 use Rattle.names.proofs.Index.{ends_inside, ends_named, index_first}
-use borrow.Author.Rules.{rules}
 use Rattle.names.proofs.index_name.Goals as goal
 
 pub spot_of-s-requires-clause-names_inside : goal.spot_of-s-requires-clause-names_inside

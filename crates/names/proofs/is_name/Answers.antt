@@ -6,7 +6,6 @@ use Prim.Native.Nat.{ℕ}
 use Rattle.grammar.specs.Text.{bytes_at}
 use Rattle.rows.specs.Rows.{Tells}
 use Rattle.names.proofs.Marks.{tells_same, part_whole, part_differ}
-use borrow.Author.Rules.{rules}
 use Rattle.names.proofs.is_name.Goals as goal
 
 pub returns-then-n-name : goal.returns-then-n-name

@@ -1,12 +1,11 @@
 use mathlib.Core.Path.{◌≡◌, refl}
-use Prim.Native.Nat.{suc, ◌+◌, ◌-◌, ◌/◌, ◌≤◌}
+use Prim.Native.Nat.{◌+◌, ◌/◌}
 use native.Mathlib.Numerals.{add-one}
 use native.Mathlib.Omega.{arith}
 use lib.ListN.{length, length-set}
 use Rattle.grammar.specs.Numbers.{rule_width}
-use Rattle.names.specs.Names.{rows_before, marked, end_word}
+use Rattle.names.specs.Names.{end_word}
 use Rattle.names.proofs.Marks.{before_grows, before_step, marked_step}
-use borrow.Author.Rules.{rules}
 use Rattle.names.proofs.mark_ends.Goals as goal
 
 pub loop-i-init : goal.loop-i-init

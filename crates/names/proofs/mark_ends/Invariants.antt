@@ -1,12 +1,9 @@
 -- The invariant: the marks of the rules passed hold their ends, and the sum is the rows of those rules. Assumes nothing.
-use mathlib.Core.Path.{◌≡◌, refl}
-use Prim.Native.Nat.{suc, ◌+◌, ◌-◌, ◌/◌, ◌≤◌}
-use native.Mathlib.Numerals.{add-one}
-use native.Mathlib.Omega.{arith}
-use lib.ListN.{length, length-set}
+use mathlib.Core.Path.{◌≡◌}
+use Prim.Native.Nat.{suc, ◌-◌, ◌/◌, ◌≤◌}
+use lib.ListN.{length}
 use Rattle.grammar.specs.Numbers.{rule_width}
 use Rattle.names.specs.Names.{rows_before, marked, end_word}
-use Rattle.names.proofs.Marks.{before_grows, before_step, marked_step}
 use Rattle.names.proofs.mark_ends.Given as goal
 
 abbrev pub invariant-loop-i : goal.invariant-loop-i

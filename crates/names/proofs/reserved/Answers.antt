@@ -1,6 +1,5 @@
 -- src/lib.rt:161:8
 use Rattle.names.proofs.Marks.{or_yes, or_no}
-use borrow.Author.Rules.{rules}
 use Rattle.names.proofs.reserved.Goals as goal
 
 pub returns-then-is_any : goal.returns-then-is_any

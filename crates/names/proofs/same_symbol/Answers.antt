@@ -1,6 +1,5 @@
 use native.Mathlib.Omega.{arith}
 use Rattle.names.proofs.Marks.{both_in, one_in, none_in}
-use borrow.Author.Rules.{rules}
 use Rattle.names.proofs.same_symbol.Goals as goal
 
 pub returns-then-d-m : goal.returns-then-d-m

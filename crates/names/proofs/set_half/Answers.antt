@@ -1,6 +1,4 @@
-use native.Mathlib.Omega.{arith}
 use Rattle.names.proofs.Index.{set_is}
-use borrow.Author.Rules.{rules}
 use Rattle.names.proofs.set_half.Goals as goal
 
 pub returns : goal.returns

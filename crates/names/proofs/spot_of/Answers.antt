@@ -1,12 +1,5 @@
-use mathlib.Core.Path.{◌≡◌, refl, sym, ap, subst, ◌∙◌}
-use Prim.Native.Nat.{ℕ, suc, ◌+◌, ◌-◌, ◌*◌, ◌/◌, ◌≤◌, ◌<◌}
 use native.Mathlib.Omega.{arith}
-use lib.ListN.{length, get_or}
-use Rattle.grammar.specs.Numbers.{rule_width}
-use Rattle.grammar.specs.Text.{bytes_at}
-use Rattle.names.specs.Names.{name_of, bucket_of, half_at, Way, Indexed, halves}
-use Rattle.names.proofs.Index.{steps_left, way_start, node_there, next_way, next_less}
-use borrow.Author.Rules.{rules}
+use Rattle.names.proofs.Index.{way_start, node_there, next_way, next_less}
 use Rattle.names.proofs.spot_of.Goals as goal
 
 pub bucket_of-requires-clause-n_in_bounds : goal.bucket_of-requires-clause-n_in_bounds

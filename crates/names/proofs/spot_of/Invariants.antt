@@ -1,11 +1,10 @@
-use mathlib.Core.Path.{◌≡◌, refl, sym, ap, subst, ◌∙◌}
-use Prim.Native.Nat.{ℕ, suc, ◌+◌, ◌-◌, ◌*◌, ◌/◌, ◌≤◌, ◌<◌}
-use native.Mathlib.Omega.{arith}
-use lib.ListN.{length, get_or}
+use mathlib.Core.Path.{◌≡◌}
+use Prim.Native.Nat.{ℕ, ◌+◌, ◌*◌, ◌/◌}
+use lib.ListN.{length}
 use Rattle.grammar.specs.Numbers.{rule_width}
 use Rattle.grammar.specs.Text.{bytes_at}
 use Rattle.names.specs.Names.{name_of, bucket_of, half_at, Way, Indexed, halves}
-use Rattle.names.proofs.Index.{steps_left, way_start, node_there, next_way, next_less}
+use Rattle.names.proofs.Index.{steps_left}
 use Rattle.names.proofs.spot_of.Given as goal
 
 abbrev pub invariant-loop-holds : goal.invariant-loop-holds

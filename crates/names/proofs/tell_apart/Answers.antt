@@ -1,6 +1,5 @@
 use Rattle.names.proofs.Marks.{shorter_apart, longer_apart, bytes_apart, bytes_same}
 use native.Mathlib.Omega.{arith}
-use borrow.Author.Rules.{rules}
 use Rattle.names.proofs.tell_apart.Goals as goal
 
 pub returns-then-n-m : goal.returns-then-n-m

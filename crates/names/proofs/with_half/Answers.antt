@@ -1,7 +1,5 @@
 use native.Mathlib.Omega.{arith}
-use Rattle.names.specs.Names.{halves}
 use Rattle.names.proofs.Index.{word_low, word_high}
-use borrow.Author.Rules.{rules}
 use Rattle.names.proofs.with_half.Goals as goal
 
 pub returns-then-h-eq0 : goal.returns-then-h-eq0

@@ -1,10 +1,9 @@
 use mathlib.Core.Path.{◌≡◌, refl, ◌∙◌}
-use Prim.Native.Nat.{◌-◌, ◌≤◌, ◌<◌}
+use Prim.Native.Nat.{◌≤◌, ◌<◌}
 use native.Mathlib.Omega.{arith}
-use lib.ListN.{length, length-set, take}
+use lib.ListN.{length, length-set}
 use Rattle.writing.specs.Writes.{stored}
 use Rattle.packing.proofs.Overs.{stored_more, stored_over}
-use borrow.Author.Rules.{rules}
 use Rattle.packing.proofs.copy_words.Goals as goal
 
 pub loop-i-init : goal.loop-i-init

@@ -7,7 +7,6 @@ use native.Mathlib.Omega.{arith}
 use lib.Dec.{eqb, ltb}
 use borrow.Author.Tests.{lt-ltb, le-ltb, eq-eqb, ne_eqb}
 use Rattle.packing.specs.Packing.{lit_length}
-use borrow.Author.Rules.{rules}
 use Rattle.packing.proofs.lit_length.Goals as goal
 
 lit_used : (k y : ℕ) → k ≤ 3 → (k ≡ 2 → ⊥) → lit_length k y ≡ y

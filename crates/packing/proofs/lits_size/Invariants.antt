@@ -1,12 +1,9 @@
 -- The invariant: what was summed and the sum over the rows left are the sum over all. Assumes nothing.
 use mathlib.Core.Path.{◌≡◌}
 use Prim.Native.Nat.{◌+◌, ◌-◌, ◌*◌, ◌/◌, ◌^◌, ◌≤◌}
-use native.Mathlib.Nat.{zero-add}
-use native.Mathlib.Omega.{arith}
 use lib.ListN.{length, drop}
 use Rattle.grammar.specs.Numbers.{row_width}
 use Rattle.packing.specs.Packing.{sum_four, row_length}
-use Rattle.packing.proofs.Sums.{sum_more, sum_done}
 use Rattle.packing.proofs.lits_size.Given as goal
 
 abbrev pub invariant-loop-i : goal.invariant-loop-i

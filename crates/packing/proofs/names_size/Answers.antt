@@ -1,12 +1,7 @@
-use mathlib.Core.Path.{◌≡◌}
-use Prim.Native.Nat.{◌+◌, ◌-◌, ◌*◌, ◌/◌, ◌^◌, ◌≤◌}
 use native.Mathlib.Nat.{zero-add}
 use native.Mathlib.Omega.{arith}
-use lib.ListN.{length, drop}
-use Rattle.grammar.specs.Numbers.{rule_width}
-use Rattle.packing.specs.Packing.{sum_four, name_length}
+use Rattle.packing.specs.Packing.{name_length}
 use Rattle.packing.proofs.Sums.{sum_more, sum_done}
-use borrow.Author.Rules.{rules}
 use Rattle.packing.proofs.names_size.Goals as goal
 
 pub loop-i-init : goal.loop-i-init

@@ -1,7 +1,6 @@
 -- the points that are looked back to
 use mathlib.Core.Path.{◌∙◌}
 use Rattle.packing.proofs.Overs.{stored_over}
-use borrow.Author.Rules.{rules}
 use Rattle.packing.proofs.put_out.Goals as goal
 
 pub returns-clause-out_rules_after : goal.returns-clause-out_rules_after

@@ -1,5 +1,4 @@
 use Rattle.packing.proofs.Sums.{sum_lent}
-use borrow.Author.Rules.{rules}
 use Rattle.packing.proofs.text_size.Goals as goal
 
 pub returns : goal.returns

@@ -1,5 +1,4 @@
 use borrow.Author.Tests.{lt-ltb, le-ltb, eq-eqb, ne_eqb}
-use borrow.Author.Rules.{rules}
 use Rattle.refusals.proofs.bad_counts.Goals as goal
 
 pub returns-then-rules-ne0 : goal.returns-then-rules-ne0

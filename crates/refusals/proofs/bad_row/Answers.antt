@@ -1,6 +1,5 @@
 use borrow.Author.Tests.{lt-ltb, le-ltb, eq-eqb, ne_eqb}
 use Rattle.refusals.specs.Bytes.{bad_row}
-use borrow.Author.Rules.{rules}
 use Rattle.refusals.proofs.bad_row.Goals as goal
 
 pub returns-then-kind-gt-IDENT : goal.returns-then-kind-gt-IDENT

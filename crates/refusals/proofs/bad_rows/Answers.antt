@@ -1,11 +1,7 @@
-use mathlib.Core.Path.{◌≡◌, refl}
-use Prim.Native.Nat.{◌-◌, ◌*◌, ◌/◌, ◌≤◌}
+use mathlib.Core.Path.{refl}
 use native.Mathlib.Omega.{arith}
-use lib.ListN.{length, drop}
-use Rattle.grammar.specs.Numbers.{row_width}
-use Rattle.refusals.specs.Bytes.{any_four, bad_row}
+use Rattle.refusals.specs.Bytes.{bad_row}
 use Rattle.refusals.proofs.Fours.{any_found, any_passed, any_done}
-use borrow.Author.Rules.{rules}
 use Rattle.refusals.proofs.bad_rows.Goals as goal
 
 pub loop-i-init : goal.loop-i-init

@@ -1,10 +1,8 @@
-use mathlib.Core.Path.{◌≡◌, refl}
+use mathlib.Core.Path.{◌≡◌}
 use Prim.Native.Nat.{◌-◌, ◌*◌, ◌/◌, ◌≤◌}
-use native.Mathlib.Omega.{arith}
 use lib.ListN.{length, drop}
 use Rattle.grammar.specs.Numbers.{row_width}
 use Rattle.refusals.specs.Bytes.{any_four, bad_row}
-use Rattle.refusals.proofs.Fours.{any_found, any_passed, any_done}
 use Rattle.refusals.proofs.bad_rows.Given as goal
 
 abbrev pub invariant-loop-i : goal.invariant-loop-i

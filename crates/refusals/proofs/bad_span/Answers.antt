@@ -2,7 +2,6 @@
 use mathlib.Core.Path.{◌≡◌, ap₂}
 use Prim.Native.Nat.{◌+◌}
 use Rattle.refusals.proofs.Highs.{span_out, span_low, span_decides}
-use borrow.Author.Rules.{rules}
 use Rattle.refusals.proofs.bad_span.Goals as goal
 
 pub returns-then-text-end : goal.returns-then-text-end

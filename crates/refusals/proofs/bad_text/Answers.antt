@@ -1,5 +1,4 @@
 use Rattle.names.proofs.Marks.{or_yes, or_no}
-use borrow.Author.Rules.{rules}
 use Rattle.refusals.proofs.bad_text.Goals as goal
 
 pub returns-then-bad_rules : goal.returns-then-bad_rules

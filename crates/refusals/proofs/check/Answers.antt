@@ -4,7 +4,6 @@ use borrow.Author.Tests.{not-true, not-false}
 use native.Mathlib.Omega.{arith}
 use Rattle.rows.proofs.Cells.{tells_yes, tells_no}
 use Rattle.refusals.proofs.Verdicts.{counts, refused_2, refused_3, refused_4, inside_names, few_rows, checked}
-use borrow.Author.Rules.{rules}
 use Rattle.refusals.proofs.check.Goals as goal
 
 pub returns-then-bad_counts : goal.returns-then-bad_counts

@@ -6,7 +6,6 @@ use Rattle.names.specs.Names.{AllIndexed, Ended}
 use Rattle.names.proofs.Marks.{ended}
 use Rattle.names.proofs.Index.{index_ends}
 use Rattle.refusals.proofs.Apart.{indexed_fine, twice_not}
-use borrow.Author.Rules.{rules}
 use Rattle.refusals.proofs.check_names.Goals as goal
 
 pub returns-then-not-index_names : goal.returns-then-not-index_names

@@ -1,6 +1,5 @@
 use native.Mathlib.Omega.{arith}
 use Rattle.refusals.proofs.Highs.{high_passed}
-use borrow.Author.Rules.{rules}
 use Rattle.refusals.proofs.first_high.Goals as goal
 
 pub returns-then-highest-lt-FIRST_HIGH : goal.returns-then-highest-lt-FIRST_HIGH

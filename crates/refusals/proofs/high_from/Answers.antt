@@ -1,6 +1,4 @@
 use Prim.Native.Nat.{◌+◌, ◌/◌}
-use native.Mathlib.Omega.{arith}
-use borrow.Author.Rules.{rules}
 use Rattle.refusals.proofs.high_from.Goals as goal
 
 pub next_high-requires-clause-high : goal.next_high-requires-clause-high

@@ -1,10 +1,9 @@
 use mathlib.Core.Path.{◌≡◌, ap}
 use mathlib.Core.List.{List}
-use Prim.Native.Nat.{ℕ, ◌-◌, ◌+◌, ◌≤◌, ◌<◌}
+use Prim.Native.Nat.{ℕ, ◌+◌, ◌≤◌, ◌<◌}
 use native.Mathlib.Decide.{dec_lt}
 use native.Mathlib.Omega.{arith}
 use lib.ListN.{get_or}
-use borrow.Author.Rules.{rules}
 use Rattle.refusals.proofs.highest.Goals as goal
 
 one_more : (t : List ℕ) (p i m r : ℕ) → ((j : ℕ) → p ≤ j → j < i → get_or t j 0 ≤ m) → m ≤ r → get_or t i 0 ≤ r → (j : ℕ) → p ≤ j → j < i + 1 → get_or t j 0 ≤ r

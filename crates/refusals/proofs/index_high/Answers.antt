@@ -1,10 +1,8 @@
 use mathlib.Core.Path.{◌≡◌, refl}
-use Prim.Native.Nat.{ℕ, ◌+◌, ◌-◌, ◌*◌, ◌≤◌, ◌<◌}
+use Prim.Native.Nat.{◌-◌}
 use native.Mathlib.Omega.{arith}
-use lib.ListN.{length, get_or, length-set}
-use Rattle.refusals.specs.Bytes.{High}
+use lib.ListN.{length-set}
 use Rattle.refusals.proofs.Highs.{high_end, index_step}
-use borrow.Author.Rules.{rules}
 use Rattle.refusals.proofs.index_high.Goals as goal
 
 pub loop-b-init : goal.loop-b-init

@@ -1,9 +1,7 @@
-use mathlib.Core.Path.{◌≡◌, refl}
-use Prim.Native.Nat.{ℕ, ◌+◌, ◌-◌, ◌*◌, ◌≤◌, ◌<◌}
-use native.Mathlib.Omega.{arith}
-use lib.ListN.{length, get_or, length-set}
+use mathlib.Core.Path.{◌≡◌}
+use Prim.Native.Nat.{ℕ, ◌+◌, ◌*◌, ◌≤◌, ◌<◌}
+use lib.ListN.{length, get_or}
 use Rattle.refusals.specs.Bytes.{High}
-use Rattle.refusals.proofs.Highs.{high_end, index_step}
 use Rattle.refusals.proofs.index_high.Given as goal
 
 abbrev pub invariant-loop-b : goal.invariant-loop-b

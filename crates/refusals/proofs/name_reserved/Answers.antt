@@ -4,7 +4,6 @@ use Prim.Native.Nat.{ℕ}
 use Rattle.grammar.specs.Basic.{member}
 use Rattle.grammar.specs.Text.{bytes_at}
 use Rattle.grammar.specs.Refusals.{reserved}
-use borrow.Author.Rules.{rules}
 use Rattle.refusals.proofs.name_reserved.Goals as goal
 
 pub reserved-requires : goal.reserved-requires

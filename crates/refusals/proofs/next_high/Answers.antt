@@ -1,8 +1,5 @@
-use Prim.Native.Nat.{ℕ, ◌-◌, ◌≤◌, ◌<◌}
 use native.Mathlib.Omega.{arith}
-use lib.ListN.{get_or}
 use Rattle.refusals.proofs.Highs.{high_found, high_passed, one_low}
-use borrow.Author.Rules.{rules}
 use Rattle.refusals.proofs.next_high.Goals as goal
 
 pub loop-i-init : goal.loop-i-init

@@ -1,7 +1,5 @@
 use Prim.Native.Nat.{ℕ, ◌-◌, ◌≤◌, ◌<◌}
-use native.Mathlib.Omega.{arith}
 use lib.ListN.{get_or}
-use Rattle.refusals.proofs.Highs.{high_found, high_passed, one_low}
 use Rattle.refusals.proofs.next_high.Given as goal
 
 abbrev pub invariant-loop-i : goal.invariant-loop-i

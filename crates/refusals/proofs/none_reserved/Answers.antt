@@ -1,14 +1,7 @@
-use mathlib.Core.Path.{◌≡◌, sym, ◌∙◌}
-use mathlib.Core.Bool.{false, false≢true}
-use Prim.Native.Nat.{ℕ, ◌-◌, ◌/◌, ◌≤◌, ◌<◌}
+use mathlib.Core.Path.{sym, ◌∙◌}
+use mathlib.Core.Bool.{false≢true}
 use borrow.Author.Count.{below_none, below_more}
 use native.Mathlib.Omega.{arith}
-use lib.ListN.{length}
-use Rattle.grammar.specs.Numbers.{rule_width}
-use Rattle.grammar.specs.Basic.{member}
-use Rattle.grammar.specs.Refusals.{reserved}
-use Rattle.names.specs.Names.{name_of}
-use borrow.Author.Rules.{rules}
 use Rattle.refusals.proofs.none_reserved.Goals as goal
 
 pub loop-i-init : goal.loop-i-init

@@ -2,7 +2,6 @@ use Prim.Native.Nat.{◌+◌, ◌-◌, ◌*◌}
 use native.Mathlib.Omega.{arith}
 use Rattle.grammar.specs.Numbers.{row_width}
 use Rattle.refusals.proofs.Tells.{one_tells}
-use borrow.Author.Rules.{rules}
 use Rattle.refusals.proofs.one_fits.Goals as goal
 
 pub overflow_add-result : goal.overflow_add-result

@@ -1,13 +1,11 @@
-use Prim.Native.Nat.{ℕ, ◌-◌, ◌/◌, ◌≤◌, ◌<◌}
+use Prim.Native.Nat.{◌/◌}
 use borrow.Author.Count.{below_none, below_more}
 use borrow.Author.Tests.{not-true, not-false}
 use native.Mathlib.Omega.{arith}
 use lib.ListN.{length}
 use Rattle.grammar.specs.Numbers.{row_width}
 use Rattle.rows.proofs.Cells.{tells_yes, tells_no}
-use Rattle.refusals.specs.Local.{RowFits}
 use Rattle.refusals.proofs.Piles.{of_tree, tree_tells}
-use borrow.Author.Rules.{rules}
 use Rattle.refusals.proofs.one_tree.Goals as goal
 
 pub returns-then-count-eq0 : goal.returns-then-count-eq0

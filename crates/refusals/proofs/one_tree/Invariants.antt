@@ -1,12 +1,7 @@
 use Prim.Native.Nat.{ℕ, ◌-◌, ◌/◌, ◌≤◌, ◌<◌}
-use borrow.Author.Count.{below_none, below_more}
-use borrow.Author.Tests.{not-true, not-false}
-use native.Mathlib.Omega.{arith}
 use lib.ListN.{length}
 use Rattle.grammar.specs.Numbers.{row_width}
-use Rattle.rows.proofs.Cells.{tells_yes, tells_no}
 use Rattle.refusals.specs.Local.{RowFits}
-use Rattle.refusals.proofs.Piles.{of_tree, tree_tells}
 use Rattle.refusals.proofs.one_tree.Given as goal
 
 abbrev pub invariant-loop-i : goal.invariant-loop-i

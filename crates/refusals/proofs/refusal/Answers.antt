@@ -1,7 +1,6 @@
 use mathlib.Core.Path.{sym, ap, ◌∙◌}
 use native.Mathlib.Omega.{arith}
 use Rattle.refusals.specs.Check.{number_of}
-use borrow.Author.Rules.{rules}
 use Rattle.refusals.proofs.refusal.Goals as goal
 
 pub returns-in-Refused : goal.returns-in-Refused

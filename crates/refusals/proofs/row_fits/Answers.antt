@@ -5,7 +5,6 @@ use borrow.Author.Tests.{not-true, not-false}
 use Rattle.rows.proofs.Laws.{Found, row_found, row_there}
 use Rattle.rows.proofs.Cells.{tells_eqb}
 use Rattle.refusals.proofs.Tells.{kind_no, unused_no, row_tells}
-use borrow.Author.Rules.{rules}
 use Rattle.refusals.proofs.row_fits.Goals as goal
 
 pub returns-in_default : goal.returns-in_default

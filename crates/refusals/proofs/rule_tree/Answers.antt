@@ -2,7 +2,6 @@ use mathlib.Core.Path.{◌≡◌}
 use Prim.Native.Nat.{◌-◌, ◌*◌}
 use native.Mathlib.Omega.{arith}
 use Rattle.grammar.specs.Numbers.{row_width}
-use borrow.Author.Rules.{rules}
 use Rattle.refusals.proofs.rule_tree.Goals as goal
 
 pub returns : goal.returns

@@ -1,5 +1,4 @@
 use Rattle.refusals.proofs.Tells.{skip_tells}
-use borrow.Author.Rules.{rules}
 use Rattle.refusals.proofs.skip_fits.Goals as goal
 
 pub returns : goal.returns

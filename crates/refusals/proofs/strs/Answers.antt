@@ -1,9 +1,6 @@
-use mathlib.Core.Path.{◌≡◌}
-use Prim.Native.Nat.{ℕ, ◌-◌, ◌≤◌, ◌<◌}
 use native.Mathlib.Omega.{arith}
 use Rattle.rows.specs.Rows.{kind_at}
 use Rattle.refusals.proofs.Tells.{one_more}
-use borrow.Author.Rules.{rules}
 use Rattle.refusals.proofs.strs.Goals as goal
 
 pub loop-j-init : goal.loop-j-init

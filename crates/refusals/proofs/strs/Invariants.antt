@@ -1,8 +1,6 @@
 use mathlib.Core.Path.{◌≡◌}
 use Prim.Native.Nat.{ℕ, ◌-◌, ◌≤◌, ◌<◌}
-use native.Mathlib.Omega.{arith}
 use Rattle.rows.specs.Rows.{kind_at}
-use Rattle.refusals.proofs.Tells.{one_more}
 use Rattle.refusals.proofs.strs.Given as goal
 
 abbrev pub invariant-loop-j : goal.invariant-loop-j

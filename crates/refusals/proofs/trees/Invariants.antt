@@ -1,14 +1,7 @@
-use mathlib.Core.Path.{refl}
 use Prim.Native.Nat.{◌-◌, ◌*◌, ◌/◌, ◌≤◌}
-use borrow.Author.Tests.{not-true, not-false}
-use native.Mathlib.Omega.{arith}
-use lib.Dec.{eqb}
-use lib.ListN.{length, take, drop}
+use lib.ListN.{length, drop}
 use Rattle.grammar.specs.Numbers.{rule_width, row_width}
-use Rattle.rows.specs.Rows.{Tells}
-use Rattle.rows.proofs.Cells.{tells_yes, tells_no, tells_iff}
-use Rattle.refusals.specs.Local.{up_to, IsTree, IsTable}
-use Rattle.refusals.proofs.Tables.{type_no, room_no, tree_no, next, back, between, end_tells}
+use Rattle.refusals.specs.Local.{up_to, IsTable}
 use Rattle.refusals.proofs.trees.Given as goal
 
 abbrev pub invariant-loop-i : goal.invariant-loop-i

@@ -6,7 +6,6 @@ use mir.Val.{Fits}
 use lib.ListN.{get_or}
 use Rattle.grammar.specs.Numbers.{row_width}
 use Rattle.refusals.proofs.Tells.{two_no, two_tells}
-use borrow.Author.Rules.{rules}
 use Rattle.refusals.proofs.two_fits.Goals as goal
 
 pub returns-then-i-right : goal.returns-then-i-right

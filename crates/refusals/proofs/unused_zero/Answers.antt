@@ -5,7 +5,6 @@ use lib.Dec.{eqb}
 use borrow.Author.Tests.{lt-ltb, eq-eqb, ne_eqb, not-true, not-false}
 use Rattle.grammar.proofs.Logic.{or_right}
 use Rattle.refusals.specs.Local.{uses_x, uses_y, unused_zero}
-use borrow.Author.Rules.{rules}
 use Rattle.refusals.proofs.unused_zero.Goals as goal
 
 pub returns-then-kind-lt-PEEK_SLICE : goal.returns-then-kind-lt-PEEK_SLICE

@@ -1,5 +1,4 @@
 use borrow.Author.Tests.{lt-ltb, le-ltb}
-use borrow.Author.Rules.{rules}
 use Rattle.refusals.proofs.uses_x.Goals as goal
 
 pub returns-then-kind-lt-POS_PRED : goal.returns-then-kind-lt-POS_PRED

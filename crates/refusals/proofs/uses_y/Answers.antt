@@ -1,5 +1,4 @@
 use borrow.Author.Tests.{lt-ltb, le-ltb, eq-eqb, ne_eqb}
-use borrow.Author.Rules.{rules}
 use Rattle.refusals.proofs.uses_y.Goals as goal
 
 pub returns-then-kind-lt-PEEK_SLICE : goal.returns-then-kind-lt-PEEK_SLICE

@@ -1,5 +1,4 @@
 use borrow.Author.Tests.{eq-eqb, ne_eqb}
-use borrow.Author.Rules.{rules}
 use Rattle.refusals.proofs.x_fits.Goals as goal
 
 pub returns-then-x-eq0 : goal.returns-then-x-eq0

@@ -1,7 +1,6 @@
 use native.Mathlib.Omega.{arith}
 use borrow.Author.Tests.{eq-eqb, ne_eqb}
 use Rattle.refusals.specs.Bytes.{zero_row}
-use borrow.Author.Rules.{rules}
 use Rattle.refusals.proofs.zero_row.Goals as goal
 
 pub returns-then-kind-lt-REP_EXACT : goal.returns-then-kind-lt-REP_EXACT

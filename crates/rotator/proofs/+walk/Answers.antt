@@ -5,7 +5,6 @@ use Rattle.grammar.specs.Rows.{Span}
 use Rattle.grammar.specs.Text.{resolve}
 use Rattle.grammar.specs.Steps.{rotate}
 use Rattle.rows.specs.Rows.{At, Stands, kind_at, size_at}
-use borrow.Author.Tests.{not-true, not-false}
 use Rattle.rows.proofs.Laws.{head_of, root}
 use Rattle.rows.proofs.Cells.{size_resolve, tells_yes, tells_no}
 use Rattle.writing.specs.Keeps.{Kept, KeptAnswer}
@@ -16,9 +15,7 @@ use Rattle.chains.proofs.Walks.{Forked, as_forked, ready_left, same_areas, leaf_
 use Rattle.rotator.specs.Members.{members_of, KeptAll}
 use Rattle.rotator.proofs.Rotations.{rotate_un}
 use Rattle.rotator.proofs.Kepts.{all_done, all_full, leaf_all, rotate_most, second_fits, rows_missing, count_missing, two_forest, two_closable, two_rotated, chain_all, run_rotated}
-use Prim.Native.Nat.{ℕ, ◌<◌}
 use lib.ListN.{length}
-use borrow.Author.Rules.{rules}
 use Rattle.rotator.proofs.+walk.Goals as goal
 
 pub below-base-requires : goal.below-base-requires

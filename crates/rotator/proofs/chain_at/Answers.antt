@@ -1,7 +1,6 @@
 -- `chain_at` meets its contract, by the test of the two rows. Assumes nothing.
 use mathlib.Core.Path.{sym}
 use Rattle.rotator.proofs.Kepts.{own_chain, no_chain}
-use borrow.Author.Rules.{rules}
 use Rattle.rotator.proofs.chain_at.Goals as goal
 
 pub returns-then-base-root : goal.returns-then-base-root

@@ -9,7 +9,6 @@ use Rattle.rows.specs.Rows.{kind_at}
 use Rattle.rows.proofs.Laws.{root}
 use Rattle.rows.proofs.Views.{as_pair, pair_left}
 use Rattle.rotator.proofs.Quiets.{pair_quiet}
-use borrow.Author.Rules.{rules}
 use Rattle.rotator.proofs.fires.Goals as goal
 
 pub overflow_mul-result : goal.overflow_mul-result

@@ -1,6 +1,5 @@
 -- `rotate` meets its contract: the walk outside any chain. Assumes nothing.
 use Rattle.rotator.proofs.Kepts.{alone_kept}
-use borrow.Author.Rules.{rules}
 use Rattle.rotator.proofs.rotate.Goals as goal
 
 pub returns : goal.returns

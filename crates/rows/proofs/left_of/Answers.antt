@@ -7,7 +7,6 @@ use Rattle.grammar.specs.Numbers.{row_width}
 use Rattle.rows.specs.Rows.{size_at}
 use Rattle.rows.proofs.Laws.{root}
 use Rattle.rows.proofs.Views.{as_pair}
-use borrow.Author.Rules.{rules}
 use Rattle.rows.proofs.left_of.Goals as goal
 
 pub overflow_sub-right : goal.overflow_sub-right

@@ -1,6 +1,5 @@
 use Rattle.rows.specs.Rows.{row_at, kind_at, x_at, y_at, size_at}
 use borrow.Author.Tests.{lt-ltb, le-ltb}
-use borrow.Author.Rules.{rules}
 use Rattle.rows.proofs.row_at.Goals as goal
 
 pub returns-then-i-rows : goal.returns-then-i-rows

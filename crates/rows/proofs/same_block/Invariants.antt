@@ -1,9 +1,6 @@
 -- The invariant: while m is 0, the bytes passed are the same. Assumes nothing.
 use mathlib.Core.Path.{◌≡◌}
 use Prim.Native.Nat.{ℕ, ◌+◌, ◌-◌, ◌≤◌, ◌<◌}
-use borrow.Author.Count.{below_none, below_more}
-use borrow.Author.Tests.{eqb-true}
-use native.Mathlib.Omega.{arith}
 use lib.ListN.{get_or}
 use Rattle.rows.specs.Rows.{block}
 use Rattle.rows.proofs.same_block.Given as goal

@@ -1,13 +1,8 @@
-use mathlib.Core.Path.{◌≡◌}
-use mathlib.Core.Logic.{⊎_elim}
-use Prim.Native.Nat.{ℕ, ◌+◌, ◌-◌, ◌≤◌, ◌<◌}
 use native.Mathlib.Omega.{arith}
-use lib.ListN.{get_or}
 use borrow.Author.Count.{below_none}
 use borrow.Author.Tests.{not-false}
 use Rattle.rows.proofs.Laws.{below_block}
 use Rattle.rows.specs.Rows.{block}
-use borrow.Author.Rules.{rules}
 use Rattle.rows.proofs.same_blocks.Goals as goal
 
 pub loop-i-init : goal.loop-i-init

@@ -1,12 +1,6 @@
 use mathlib.Core.Path.{◌≡◌}
-use mathlib.Core.Logic.{⊎_elim}
 use Prim.Native.Nat.{ℕ, ◌+◌, ◌-◌, ◌≤◌, ◌<◌}
-use native.Mathlib.Omega.{arith}
 use lib.ListN.{get_or}
-use borrow.Author.Count.{below_none}
-use borrow.Author.Tests.{not-false}
-use Rattle.rows.proofs.Laws.{below_block}
-use Rattle.rows.specs.Rows.{block}
 use Rattle.rows.proofs.same_blocks.Given as goal
 
 abbrev pub invariant-loop-i : goal.invariant-loop-i

@@ -1,6 +1,5 @@
 use native.Mathlib.Omega.{arith}
 use Rattle.rows.proofs.Laws.{unlike_tells}
-use borrow.Author.Rules.{rules}
 use Rattle.rows.proofs.same_bytes.Goals as goal
 
 pub returns : goal.returns

@@ -1,9 +1,8 @@
 -- the function's entry, and the two rows that were read
-use mathlib.Core.Path.{◌≡◌, sym, ap, ◌∙◌}
+use mathlib.Core.Path.{sym, ap, ◌∙◌}
 use Rattle.rows.specs.Rows.{shape_of}
 use Rattle.rows.proofs.Laws.{Found, row_found, row_there}
-use Rattle.rows.proofs.Cells.{not_lit, lit_inside, rows_kind, rows_y, lits_tell, numbers_tell}
-use borrow.Author.Rules.{rules}
+use Rattle.rows.proofs.Cells.{lit_inside, rows_kind, rows_y, lits_tell, numbers_tell}
 use Rattle.rows.proofs.same_row.Goals as goal
 
 pub returns-in_default : goal.returns-in_default

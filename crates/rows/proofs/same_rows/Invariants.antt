@@ -1,10 +1,6 @@
 use mathlib.Core.Path.{◌≡◌}
 use Prim.Native.Nat.{ℕ, ◌+◌, ◌-◌, ◌≤◌, ◌<◌}
-use borrow.Author.Count.{below_none, below_more}
-use borrow.Author.Tests.{not-true, not-false}
-use native.Mathlib.Omega.{arith}
 use Rattle.rows.specs.Rows.{cell_at}
-use Rattle.rows.proofs.Cells.{tells_yes, tells_no}
 use Rattle.rows.proofs.same_rows.Given as goal
 
 abbrev pub invariant-loop-k : goal.invariant-loop-k

@@ -1,5 +1,5 @@
 -- the function's entry, and the two rows that were read
-use mathlib.Core.Path.{◌≡◌, sym, ◌∙◌}
+use mathlib.Core.Path.{sym, ◌∙◌}
 use Prim.Native.Nat.{◌+◌, ◌/◌, ◌≤◌, ◌<◌}
 use native.Mathlib.Omega.{arith}
 use lib.ListN.{length}
@@ -7,7 +7,6 @@ use Rattle.grammar.specs.Numbers.{row_width}
 use Rattle.rows.proofs.Laws.{Found, row_found, root, root_there, found_size}
 use Rattle.rows.proofs.Cells.{trees_size, trees_tell}
 use Rattle.rows.proofs.Insides.{within_run}
-use borrow.Author.Rules.{rules}
 use Rattle.rows.proofs.same_tree.Goals as goal
 
 pub returns-in_default : goal.returns-in_default

@@ -1,6 +1,5 @@
 use Rattle.rows.specs.Rows.{shape_of}
 use borrow.Author.Tests.{lt-ltb, le-ltb, eq-eqb, ne_eqb}
-use borrow.Author.Rules.{rules}
 use Rattle.rows.proofs.shape_of.Goals as goal
 
 pub returns-then-kind-lt-RANGE : goal.returns-then-kind-lt-RANGE

@@ -17,7 +17,9 @@ returns-in_default c = absurd (row_there _ _ c.requires.i_in_bounds.0 (sym c.row
 
 pub overflow_add-x : goal.overflow_add-x
 overflow_add-x c = let found : Found c.args.out.now c.args.i c.in-Row.kind c.in-Row.x c.in-Row.y c.in-Row.size = row_found (sym c.row_at.ensures ∙ c.in-Row.is) in
+    let is_lit : shape_of c.in-Row.kind ≡ Lit = sym c.shape_of.ensures ∙ c.in-Lit.is in
     let f = found in
+    let m : x_at c.args.out.now c.args.i + c.args.d < 2 ^ 32 = c.requires.movable (ap shape_of f.kind ∙ is_lit) in
     omega (arith, f.x)
 
 pub returns-in-Lit : goal.returns-in-Lit

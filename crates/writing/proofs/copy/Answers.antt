@@ -1,12 +1,11 @@
 -- the function's entry, the row that was read, and that its subtree lies in the table
-use mathlib.Core.Path.{◌≡◌, sym, ◌∙◌}
+use mathlib.Core.Path.{sym, ◌∙◌}
 use Prim.Native.Nat.{◌+◌, ◌/◌, ◌≤◌, ◌<◌}
 use native.Mathlib.Omega.{arith}
 use lib.ListN.{length}
 use Rattle.grammar.specs.Numbers.{row_width}
 use Rattle.rows.proofs.Laws.{Found, row_found, root, root_there, found_size}
 use Rattle.writing.proofs.Copies.{tree_copied}
-use borrow.Author.Rules.{rules}
 use Rattle.writing.proofs.copy.Goals as goal
 
 pub returns-in_default : goal.returns-in_default

@@ -1,11 +1,9 @@
-use mathlib.Core.Path.{◌≡◌, refl, ap, ◌∙◌}
-use Prim.Native.Nat.{ℕ, ◌+◌, ◌-◌, ◌≤◌, ◌<◌}
+use mathlib.Core.Path.{◌≡◌, refl}
+use Prim.Native.Nat.{◌+◌, ◌<◌}
 use native.Mathlib.Omega.{arith}
 use lib.ListN.{length, length-set}
-use Rattle.grammar.specs.Text.{bytes_at}
 use Rattle.writing.specs.Writes.{stored}
 use Rattle.writing.proofs.Runs.{copy_more}
-use borrow.Author.Rules.{rules}
 use Rattle.writing.proofs.copy_bytes.Goals as goal
 
 pub loop-i-init : goal.loop-i-init

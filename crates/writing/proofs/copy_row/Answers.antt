@@ -2,10 +2,9 @@
 use mathlib.Core.Path.{sym, ◌∙◌}
 use Prim.Native.Nat.{◌+◌}
 use native.Mathlib.Omega.{arith}
-use Rattle.rows.proofs.Cells.{in_text, not_lit}
+use Rattle.rows.proofs.Cells.{in_text}
 use Rattle.writing.proofs.Pendings.{word_found, ran_done, ran_full, lit_moved, other_moved}
 use Rattle.writing.proofs.Copies.{lit_text}
-use borrow.Author.Rules.{rules}
 use Rattle.writing.proofs.copy_row.Goals as goal
 
 pub overflow_cast-x : goal.overflow_cast-x

@@ -1,10 +1,8 @@
 use mathlib.Core.Path.{◌≡◌, refl, sym, ◌∙◌}
-use Prim.Native.Nat.{◌+◌, ◌-◌, ◌*◌}
+use Prim.Native.Nat.{◌+◌}
 use native.Mathlib.Omega.{arith}
-use Rattle.writing.specs.Writes.{stored}
-use Rattle.grammar.specs.Numbers.{row_width}
 use Rattle.writing.proofs.Runs.{stored_none}
-use Rattle.writing.proofs.Pendings.{MovingAt, none_pending, pending_length, pending_runs, moved_done, moved_full, moving_length, moving_more, moving_full, moving_done}
+use Rattle.writing.proofs.Pendings.{none_pending, pending_length, pending_runs, moved_done, moved_full, moving_length, moving_more, moving_full, moving_done}
 use borrow.Author.Rules.{rules}
 use Rattle.writing.proofs.copy_rows.Goals as goal
 

@@ -1,10 +1,7 @@
-use mathlib.Core.Path.{◌≡◌, refl, sym, ◌∙◌}
+use mathlib.Core.Path.{◌≡◌}
 use Prim.Native.Nat.{◌+◌, ◌-◌, ◌*◌}
-use native.Mathlib.Omega.{arith}
-use Rattle.writing.specs.Writes.{stored}
 use Rattle.grammar.specs.Numbers.{row_width}
-use Rattle.writing.proofs.Runs.{stored_none}
-use Rattle.writing.proofs.Pendings.{MovingAt, none_pending, pending_length, pending_runs, moved_done, moved_full, moving_length, moving_more, moving_full, moving_done}
+use Rattle.writing.proofs.Pendings.{MovingAt}
 use Rattle.writing.proofs.copy_rows.Given as goal
 
 abbrev pub invariant-loop-from : goal.invariant-loop-from

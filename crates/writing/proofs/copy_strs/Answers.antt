@@ -1,7 +1,6 @@
 use native.Mathlib.Omega.{arith}
 use Rattle.rows.proofs.Laws.{strs_inside}
 use Rattle.writing.proofs.Copies.{strs_copied}
-use borrow.Author.Rules.{rules}
 use Rattle.writing.proofs.copy_strs.Goals as goal
 
 pub copy_rows-requires-clause-n_in_bounds : goal.copy_rows-requires-clause-n_in_bounds

@@ -1,5 +1,4 @@
 use Rattle.writing.proofs.Keeps.{fits_room, ready_fits, answer_kept}
-use borrow.Author.Rules.{rules}
 use Rattle.writing.proofs.keep.Goals as goal
 
 pub copy-requires-clause-inside : goal.copy-requires-clause-inside

@@ -1,6 +1,5 @@
 use native.Mathlib.Omega.{arith}
 use Rattle.writing.proofs.Pendings.{lit_full, lit_joins, lit_begins}
-use borrow.Author.Rules.{rules}
 use Rattle.writing.proofs.next_lit.Goals as goal
 
 pub returns-then-lits-end : goal.returns-then-lits-end

@@ -1,7 +1,6 @@
 use native.Mathlib.Omega.{arith}
 use Rattle.rows.proofs.Laws.{length_part}
 use Rattle.writing.proofs.Puts.{lit_put}
-use borrow.Author.Rules.{rules}
 use Rattle.writing.proofs.put_lit.Goals as goal
 
 pub returns-then-lits-at : goal.returns-then-lits-at
