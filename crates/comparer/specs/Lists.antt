@@ -1,11 +1,12 @@
 -- Where two trees differ, entries in the lent list, and the whole answer as the caller sees it. Assumes nothing.
-use Rattle.std.specs.Prelude.{◌≡◌, cond, List, [], ◌∷◌, ◌++◌, ℕ, zero, suc, ◌+◌, ◌*◌, ◌≤◌, ◌<◌, eqb, length}
+use Rattle.std.specs.Prelude.{◌≡◌, Bool, true, false, ◌||◌, cond, List, [], ◌∷◌, ◌++◌, ℕ, zero, suc, ◌+◌, ◌*◌, ◌≤◌, ◌<◌, eqb, ltb, length}
 use Rattle.std.proofs.Math.Option.{Option, none, some}
 use Rattle.std.proofs.Math.ListN.{get_elem?}
 use Rattle.grammar.specs.Basic.{Bytes}
 use Rattle.grammar.specs.Refusals.{full_rules, full_rows, full_marks}
 use Rattle.grammar.specs.Rows.{Span}
 use Rattle.grammar.specs.Table.{Rule, Table, rule_words, row_words}
+use Rattle.grammar.specs.Reading.{read_table, input_kinds}
 use Rattle.rows.specs.Rows.{Inside, cell_at}
 use Rattle.names.specs.Names.{NamesInside, Ended}
 use Rattle.writing.specs.Writes.{stored}

@@ -1,5 +1,5 @@
 -- When two tables are the same up to the order of their rules. Assumes nothing.
-use Rattle.std.specs.Prelude.{◌∷◌}
+use Rattle.std.specs.Prelude.{List, ◌∷◌}
 use Rattle.grammar.specs.Basic.{Bytes}
 use Rattle.grammar.specs.Table.{Rule, Table}
 

@@ -1,6 +1,6 @@
 -- A reading of rows that tells where it ends: the marks that it goes by, the rules that it is in, and what it answers. Assumes nothing.
-use Rattle.std.specs.Prelude.{◌≡◌, cond, List, [], ◌++◌, ℕ, zero, suc, ◌+◌, ◌-◌, ◌*◌, ◌/◌, ◌≤◌, ◌<◌, eqb, length, get_or}
-use Rattle.grammar.specs.Numbers.{rule_width, mark_width}
+use Rattle.std.specs.Prelude.{◌≡◌, Bool, true, false, cond, List, [], ◌∷◌, ◌++◌, ℕ, zero, suc, ◌+◌, ◌-◌, ◌*◌, ◌/◌, ◌≤◌, ◌<◌, eqb, length, get_or, set}
+use Rattle.grammar.specs.Numbers.{rule_width, row_width, mark_width}
 use Rattle.grammar.specs.Basic.{Bytes}
 use Rattle.grammar.specs.Refusals.{full_rules, full_rows}
 use Rattle.grammar.specs.Rows.{Span}
@@ -12,7 +12,7 @@ use Rattle.writing.specs.Writes.{stored}
 use Rattle.skipper.specs.Memory.{Marks, Opened, Known}
 use Rattle.skipper.specs.Lends.{marks_of, Given, ReadsOf}
 use Rattle.explanation.specs.Ends.{Ends, reads, unknown, other, again, Look, ends_name}
-use Rattle.explanation.specs.Explain.{ends_told}
+use Rattle.explanation.specs.Explain.{Explained, ends_told}
 use Rattle.explanation.proofs.Ties.{Numbers}
 use Rattle.explainer.specs.declared.Told.{Told}
 

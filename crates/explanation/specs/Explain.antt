@@ -1,9 +1,9 @@
 -- "Why did this loop stay a loop?" (02, No. 2): the answer for a table and a row, and the whole answer for any words. Assumes nothing.
-use Rattle.std.specs.Prelude.{◌||◌, not, cond, List, [], ◌∷◌, ℕ, suc, ◌+◌, ◌-◌, eqb, ltb, length, get_or}
+use Rattle.std.specs.Prelude.{Bool, true, false, ◌||◌, not, cond, List, [], ◌∷◌, ℕ, suc, ◌+◌, ◌-◌, eqb, ltb, length, get_or}
 use Rattle.std.proofs.Math.Option.{Option, none, some}
 use Rattle.grammar.specs.Basic.{Bytes, same_bytes}
 use Rattle.grammar.specs.Numbers.{refused_area}
-use Rattle.grammar.specs.Tree.{Str, E, lit, fixed, skip, un, bin, size, as_rep, as_seq, as_neg_pred, as_ident, same}
+use Rattle.grammar.specs.Tree.{Lit, Str, E, lit, fixed, skip, un, bin, size, as_rep, as_seq, as_neg_pred, as_ident, same}
 use Rattle.grammar.specs.Table.{Table, Words}
 use Rattle.grammar.specs.Reading.{read_table}
 use Rattle.grammar.specs.Lists.{ANY}

@@ -5,7 +5,7 @@ use Rattle.grammar.specs.Basic.{◌>>=◌, test, ◌<|>◌, first_with}
 use Rattle.grammar.specs.Numbers.{row_width, k_skip, k_push}
 use Rattle.grammar.specs.Tree.{Head, Lit, Str, Insens, Ident, Fixed, Range, PeekSlice, PeekFrom, Un, PosPred, NegPred, Opt, Rep, RepOnce, Push, RestoreOnErr, RepExact, RepMin, RepMax, RepMinMax, Bin, Seq, Choice, Expr, lit, fixed, skip, un, bin, lit_kind, fixed_head, un_head, bin_kind, size, as_str}
 use Rattle.grammar.specs.Rows.{Span}
-use Rattle.grammar.specs.Table.{Table, NonAtomic}
+use Rattle.grammar.specs.Table.{Rule, Table, NonAtomic}
 
 -- A head is read as the one of the candidates that has it, so unused words are 0
 

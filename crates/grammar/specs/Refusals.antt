@@ -1,5 +1,5 @@
 -- The conditions of the eight refusals, each on its own (01, "The eight refusals"). Refusal 3 is that no table can be read (Reading). Assumes nothing.
-use Rattle.std.specs.Prelude.{Bool, false, ◌&&◌, ◌||◌, not, List, [], ◌∷◌, map, ℕ, ◌+◌, ◌*◌, ◌%◌, length, eqb, ltb}
+use Rattle.std.specs.Prelude.{Bool, true, false, ◌&&◌, ◌||◌, not, List, [], ◌∷◌, map, ℕ, ◌+◌, ◌*◌, ◌%◌, length, eqb, ltb}
 use Rattle.std.proofs.Math.Option.{Option, none, some}
 use Rattle.grammar.specs.Basic.{Bytes, any, same_bytes, member}
 use Rattle.grammar.specs.Numbers.{rule_width, row_width, mark_width, last_ascii}

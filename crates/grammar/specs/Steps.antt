@@ -4,7 +4,7 @@ use Rattle.std.specs.Prelude.{Bool, true, false, ◌||◌, cond, List, [], ◌�
 use Rattle.std.proofs.Math.Option.{Option, none, some}
 use Rattle.grammar.specs.Basic.{Bytes, ◌>>=◌, test, ◌<|>◌, or_else}
 use Rattle.grammar.specs.Numbers.{k_opt, k_rep}
-use Rattle.grammar.specs.Tree.{Str, Insens, Un, PosPred, NegPred, Opt, Rep, RepOnce, Push, RestoreOnErr, RepExact, RepMin, RepMax, RepMinMax, Bin, Seq, Choice, E, lit, fixed, skip, un, bin, is_un, size, as_str, as_insens, as_rep, as_seq, as_choice, same}
+use Rattle.grammar.specs.Tree.{Lit, Str, Insens, Un, PosPred, NegPred, Opt, Rep, RepOnce, Push, RestoreOnErr, RepExact, RepMin, RepMax, RepMinMax, Bin, Seq, Choice, E, lit, fixed, skip, un, bin, is_un, size, as_str, as_insens, as_rep, as_seq, as_choice, same}
 use Rattle.grammar.specs.Table.{Rule, Table, Atomic, CompoundAtomic}
 use Rattle.grammar.specs.Lists.{loop_over, skip_list, as_strings}
 use Rattle.grammar.specs.Stack.{changes}
