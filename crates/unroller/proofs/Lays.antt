@@ -14,7 +14,7 @@ use Rattle.rows.specs.Rows.{At}
 use Rattle.rows.proofs.Laws.{root, at_un, size_pos}
 use Rattle.writing.specs.declared.Place.{Place}
 use Rattle.writing.specs.declared.Wrote.TheVariants.{Done}
-use Rattle.writing.specs.Writes.{Put, RowPut, Written, stored}
+use Rattle.writing.specs.Writes.{Put, RowPut, Written}
 use Rattle.writing.proofs.Puts.{put_out, put_lits, put_then, put_none}
 use Rattle.writing.proofs.Trees.{size_packed, length_packed, written_put, written_out, written_lits, un_tree}
 use Rattle.chains.specs.Chains.{sizes, flats, texts, packs}

@@ -19,7 +19,7 @@ use Rattle.rows.proofs.Cells.{un_same}
 use Rattle.writing.specs.declared.Place.{Place}
 use Rattle.writing.specs.declared.Wrote.{Wrote}
 use Rattle.writing.specs.declared.Wrote.TheVariants.{Done, Full}
-use Rattle.writing.specs.Writes.{RowAnswer, Fits, Written, Answer, stored}
+use Rattle.writing.specs.Writes.{RowAnswer, Fits, Written, Answer}
 use Rattle.writing.proofs.Trees.{un_tree, length_packed, written_out, written_lits}
 use Rattle.unroller.specs.declared.Items.{Items}
 use Rattle.unroller.specs.Items.{items_of, items_for, count_of, IsRepeat}

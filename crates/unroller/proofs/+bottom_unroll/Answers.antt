@@ -1,5 +1,4 @@
 use mathlib.Core.Path.{◌≡◌, sym, ◌∙◌}
-use Prim.Native.Nat.{ℕ, ◌+◌, ◌*◌, ◌<◌}
 use native.Mathlib.Omega.{arith}
 use Rattle.grammar.specs.Tree.{Expr, size}
 use Rattle.grammar.specs.Rows.{Span}
@@ -10,7 +9,6 @@ use Rattle.rows.proofs.Views.{TwoView, as_lit, as_num, as_two, as_skip, left_at}
 use Rattle.chains.proofs.Runs.{low_most}
 use Rattle.unroller.proofs.Walks.{unrolled_lit, unrolled_num, unrolled_skip, left_counted, right_counted, two_full₁, two_full₂, two_room, two_size, two_node}
 use Rattle.unroller.proofs.Climbs.{lit_in, low_kind, low_counted, low_full, low_standing, run_answer}
-use borrow.Author.Rules.{rules}
 use Rattle.unroller.proofs.+bottom_unroll.Goals as goal
 
 pub bottom-overflow_mul-at : goal.bottom-overflow_mul-at

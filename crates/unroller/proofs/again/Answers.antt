@@ -1,6 +1,5 @@
 use mathlib.Core.Path.{refl}
 use Rattle.unroller.proofs.Agains.{again_movable, again_written}
-use borrow.Author.Rules.{rules}
 use Rattle.unroller.proofs.again.Goals as goal
 
 pub move_rows-requires-clause-by_index : goal.move_rows-requires-clause-by_index

@@ -1,10 +1,8 @@
 use mathlib.Core.Path.{◌∙◌}
-use Prim.Native.Nat.{◌-◌}
 use native.Mathlib.Omega.{arith}
 use Rattle.rows.specs.Rows.{kind_at, x_at, y_at}
 use Rattle.rows.proofs.Laws.{root}
-use Rattle.unroller.proofs.Climbs.{Up, up_none, up_headed, up_more, up_full, up_all}
-use borrow.Author.Rules.{rules}
+use Rattle.unroller.proofs.Climbs.{up_none, up_headed, up_more, up_full, up_all}
 use Rattle.unroller.proofs.climb.Goals as goal
 
 pub loop-i-init : goal.loop-i-init

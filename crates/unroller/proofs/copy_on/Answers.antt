@@ -1,12 +1,11 @@
 use mathlib.Core.Path.{◌≡◌, refl}
-use Prim.Native.Nat.{◌+◌, ◌-◌, ◌≤◌, ◌<◌}
+use Prim.Native.Nat.{◌+◌, ◌<◌}
 use native.Mathlib.Omega.{arith}
 use lib.ListN.{length, length-set}
 use Rattle.grammar.specs.Text.{bytes_at}
 use Rattle.writing.specs.Writes.{stored}
 use Rattle.writing.proofs.Runs.{copy_more}
 use Rattle.unroller.proofs.Stores.{stored_word}
-use borrow.Author.Rules.{rules}
 use Rattle.unroller.proofs.copy_on.Goals as goal
 
 pub loop-i-init : goal.loop-i-init

@@ -1,11 +1,8 @@
-use mathlib.Core.Path.{◌≡◌, refl}
-use Prim.Native.Nat.{◌+◌, ◌-◌, ◌≤◌, ◌<◌}
-use native.Mathlib.Omega.{arith}
-use lib.ListN.{length, length-set}
+use mathlib.Core.Path.{◌≡◌}
+use Prim.Native.Nat.{◌-◌, ◌≤◌}
+use lib.ListN.{length}
 use Rattle.grammar.specs.Text.{bytes_at}
 use Rattle.writing.specs.Writes.{stored}
-use Rattle.writing.proofs.Runs.{copy_more}
-use Rattle.unroller.proofs.Stores.{stored_word}
 use Rattle.unroller.proofs.copy_on.Given as goal
 
 abbrev pub invariant-loop-i : goal.invariant-loop-i

@@ -3,7 +3,6 @@ use native.Mathlib.Omega.{arith}
 use Rattle.grammar.specs.Tree.{Opt, Rep}
 use Rattle.unroller.specs.Copies.{behind_of}
 use Rattle.unroller.proofs.Lays.{item_is, finished}
-use borrow.Author.Rules.{rules}
 use Rattle.unroller.proofs.finish.Goals as goal
 
 pub over-requires : goal.over-requires

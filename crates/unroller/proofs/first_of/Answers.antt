@@ -1,6 +1,5 @@
 use native.Mathlib.Omega.{arith}
 use Rattle.unroller.proofs.Repeats.{first_plain, first_opt, first_rep}
-use borrow.Author.Rules.{rules}
 use Rattle.unroller.proofs.first_of.Goals as goal
 
 pub returns-then-plain-gt0 : goal.returns-then-plain-gt0

@@ -1,7 +1,6 @@
 use Prim.Native.Nat.{◌+◌}
 use native.Mathlib.Omega.{arith}
 use Rattle.unroller.proofs.Repeats.{product_fits, sum_fits, holds_tell}
-use borrow.Author.Rules.{rules}
 use Rattle.unroller.proofs.hold.Goals as goal
 
 pub overflow_mul-all : goal.overflow_mul-all

@@ -1,6 +1,5 @@
 use native.Mathlib.Omega.{arith}
 use Rattle.unroller.proofs.Nodes.{repeat_tells}
-use borrow.Author.Rules.{rules}
 use Rattle.unroller.proofs.is_repeat.Goals as goal
 
 pub returns : goal.returns

@@ -4,7 +4,6 @@ use native.Mathlib.Nat.{min-eq_left, min-eq_right}
 use native.Mathlib.Omega.{arith}
 use borrow.Author.Tests.{eq-eqb, ne_eqb}
 use Rattle.unroller.specs.Items.{items_for}
-use borrow.Author.Rules.{rules}
 use Rattle.unroller.proofs.items_for.Goals as goal
 
 pub returns-then-kind-eq-REP_ONCE : goal.returns-then-kind-eq-REP_ONCE

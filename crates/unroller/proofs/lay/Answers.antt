@@ -7,7 +7,6 @@ use Rattle.unroller.specs.declared.Item.TheVariants.{Once, Maybe, Many}
 use Rattle.unroller.specs.Items.{item_of, items_of}
 use Rattle.unroller.proofs.Lays.{source_written, laid_append, written_laid}
 use Rattle.unroller.proofs.Spreads.{ahead_first, ahead_next, lay_finish, pending_first, pending_next, pending_repeat}
-use borrow.Author.Rules.{rules}
 use Rattle.unroller.proofs.lay.Goals as goal
 
 pub finish-a-requires : goal.finish-a-requires

@@ -7,9 +7,7 @@ use Rattle.rows.specs.declared.Shape.TheVariants.{Lit}
 use Rattle.rows.specs.Rows.{x_at, shape_of}
 use Rattle.writing.specs.Writes.{stored}
 use Rattle.rows.proofs.Laws.{Found, row_found, row_there}
-use Rattle.rows.proofs.Cells.{not_lit}
 use Rattle.unroller.proofs.Moves.{lit_moved, other_moved}
-use borrow.Author.Rules.{rules}
 use Rattle.unroller.proofs.move_row.Goals as goal
 
 pub returns-in_default : goal.returns-in_default

@@ -1,13 +1,10 @@
 use mathlib.Core.Path.{◌≡◌, refl, sym, subst, ◌∙◌}
 use mathlib.Core.List.{List}
-use Prim.Native.Nat.{ℕ, ◌+◌, ◌-◌, ◌*◌, ◌≤◌}
+use Prim.Native.Nat.{ℕ, ◌+◌}
 use native.Mathlib.Omega.{arith}
-use lib.ListN.{length}
-use Rattle.grammar.specs.Numbers.{row_width}
 use Rattle.writing.specs.Writes.{stored}
-use Rattle.unroller.specs.Copies.{moved, Movable}
+use Rattle.unroller.specs.Copies.{Movable}
 use Rattle.unroller.proofs.Moves.{front_movable, move_more}
-use borrow.Author.Rules.{rules}
 use Rattle.unroller.proofs.move_rows.Goals as goal
 
 pub loop-k-init : goal.loop-k-init

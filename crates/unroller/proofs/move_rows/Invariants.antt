@@ -1,12 +1,9 @@
-use mathlib.Core.Path.{◌≡◌, refl, sym, subst, ◌∙◌}
-use mathlib.Core.List.{List}
-use Prim.Native.Nat.{ℕ, ◌+◌, ◌-◌, ◌*◌, ◌≤◌}
-use native.Mathlib.Omega.{arith}
+use mathlib.Core.Path.{◌≡◌}
+use Prim.Native.Nat.{◌-◌, ◌*◌, ◌≤◌}
 use lib.ListN.{length}
 use Rattle.grammar.specs.Numbers.{row_width}
 use Rattle.writing.specs.Writes.{stored}
-use Rattle.unroller.specs.Copies.{moved, Movable}
-use Rattle.unroller.proofs.Moves.{front_movable, move_more}
+use Rattle.unroller.specs.Copies.{moved}
 use Rattle.unroller.proofs.move_rows.Given as goal
 
 abbrev pub invariant-loop-k : goal.invariant-loop-k

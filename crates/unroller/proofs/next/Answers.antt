@@ -1,5 +1,4 @@
 use Rattle.unroller.proofs.Lays.{copy_once, copy_finish}
-use borrow.Author.Rules.{rules}
 use Rattle.unroller.proofs.next.Goals as goal
 
 pub again-s-requires : goal.again-s-requires

@@ -2,7 +2,6 @@ use native.Mathlib.Omega.{arith}
 use Rattle.rows.proofs.Cells.{tells_yes, tells_no}
 use Rattle.unroller.proofs.Lays.{source_rows}
 use Rattle.unroller.proofs.Nodes.{node_spread, node_items, node_row}
-use borrow.Author.Rules.{rules}
 use Rattle.unroller.proofs.node.Goals as goal
 
 pub spread-requires : goal.spread-requires

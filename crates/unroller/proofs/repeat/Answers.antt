@@ -1,12 +1,7 @@
 use mathlib.Core.Path.{◌≡◌, refl, ◌∙◌}
-use Prim.Native.Nat.{◌-◌, ◌≤◌}
 use native.Mathlib.Omega.{arith}
-use lib.ListN.{length, replicate}
-use Rattle.grammar.specs.Tree.{E}
 use Rattle.unroller.specs.Items.{item_of}
-use Rattle.unroller.specs.Copies.{Source, Laid}
 use Rattle.unroller.proofs.Lays.{source_put, laid_none, laid_more, repeat_copyable}
-use borrow.Author.Rules.{rules}
 use Rattle.unroller.proofs.repeat.Goals as goal
 
 pub loop-i-init : goal.loop-i-init

@@ -1,11 +1,9 @@
-use mathlib.Core.Path.{◌≡◌, refl, ◌∙◌}
+use mathlib.Core.Path.{◌≡◌}
 use Prim.Native.Nat.{◌-◌, ◌≤◌}
-use native.Mathlib.Omega.{arith}
 use lib.ListN.{length, replicate}
 use Rattle.grammar.specs.Tree.{E}
 use Rattle.unroller.specs.Items.{item_of}
 use Rattle.unroller.specs.Copies.{Source, Laid}
-use Rattle.unroller.proofs.Lays.{source_put, laid_none, laid_more, repeat_copyable}
 use Rattle.unroller.proofs.repeat.Given as goal
 
 abbrev pub invariant-loop-i : goal.invariant-loop-i

@@ -2,14 +2,12 @@
 use mathlib.Core.Path.{◌≡◌, refl}
 use Prim.Native.Nat.{◌-◌}
 use native.Mathlib.Omega.{arith}
-use borrow.Author.Tests.{not-true, not-false}
 use lib.ListN.{length}
 use Rattle.grammar.specs.Tree.{Seq}
 use Rattle.rows.proofs.Cells.{tells_yes, tells_no}
 use Rattle.unroller.specs.Items.{items_of, count_of}
 use Rattle.unroller.proofs.Lays.{source_rows}
 use Rattle.unroller.proofs.Spreads.{some, items_count, fits_hold, holds_fit, nest_lay, closable, nested_answer}
-use borrow.Author.Rules.{rules}
 use Rattle.unroller.proofs.spread.Goals as goal
 
 pub overflow_sub-out : goal.overflow_sub-out
