@@ -42,7 +42,7 @@ abbrev pub changes_found : Option E → (E → Bool) → Bool
 changes_found none look = false
 changes_found (some e) look = look e
 
--- reached through at most n looks into rules; the number of rules is enough (Stacks, `changes-is`)
+-- reached through at most n looks into rules; the number of rules is enough (Stacks, `changes_is`)
 abbrev pub changes_name : ℕ → Table Bytes → Bytes → Bool
 changes_name zero t x = false
 changes_name (suc n) t x = changes_found (find t x) (changes_in (changes_name n t))

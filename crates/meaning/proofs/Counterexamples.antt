@@ -1,5 +1,5 @@
 -- Why demand 3 says what it says: without a premise that the proof uses, some table's outcomes change. The premises that it does not use
--- are named at `Premises`; `demand3-counts` (Theorem) does without them. Assumes nothing.
+-- are named at `Premises`; `demand3_counts` (Theorem) does without them. Assumes nothing.
 use mathlib.Core.Path.{◌≡◌, refl}
 use mathlib.Core.Bool.{false, not}
 use mathlib.Core.List.{[], ◌∷◌, ◌++◌}

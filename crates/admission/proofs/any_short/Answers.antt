@@ -1,4 +1,4 @@
--- src/lib.rt:40:8
+-- `any_short` meets its contract. Assumes nothing.
 use mathlib.Core.Path.{sym, ◌∙◌}
 use lib.Dec.{ltb}
 use Rattle.admission.specs.Ready.{short_of}

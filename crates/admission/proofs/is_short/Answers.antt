@@ -1,4 +1,4 @@
--- src/lib.rt:17:9
+-- `is_short` meets its contract. Assumes nothing.
 use Rattle.admission.proofs.Trying.{short_rules, short_rows, short_text}
 use Rattle.admission.proofs.is_short.Goals as goal
 

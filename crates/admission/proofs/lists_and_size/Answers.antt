@@ -1,4 +1,4 @@
--- src/lib.rt:57:11
+-- `lists_and_size` meets its contract. Assumes nothing.
 use Rattle.admission.proofs.Trying.{passed_given, passed_few, tried_again, tried_large, tried_fine}
 use Rattle.admission.proofs.lists_and_size.Goals as goal
 

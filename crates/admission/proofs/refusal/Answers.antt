@@ -1,4 +1,4 @@
--- src/lib.rt:75:9
+-- `refusal` meets its contract. Assumes nothing.
 use Rattle.admission.proofs.Trying.{admitted_short, admitted_tried, checked_tried}
 use Rattle.admission.proofs.refusal.Goals as goal
 

@@ -1,5 +1,5 @@
--- `finish` meets its contract: by the two roots that it reads, one literal's row or the node's own. Assumes nothing.
--- the points that are looked back to
+-- `finish` meets its contract: by the two roots that it reads, one literal's row or the node's own.
+-- Assumes nothing.
 use mathlib.Core.Path.{refl, sym, ◌∙◌}
 use Prim.Native.Nat.{◌-◌}
 use native.Mathlib.Omega.{arith}

@@ -1,5 +1,5 @@
--- `explain` meets its contract: a short area, a refusal, or the answer of a table that passed. Assumes nothing.
--- the points that are looked back to: the start, from where no area is short; that, from where no refusal holds
+-- `explain` meets its contract: a short area, a refusal, or the answer of a table that passed.
+-- Assumes nothing.
 use mathlib.Core.Path.{◌≡◌, sym, ◌∙◌}
 use mathlib.Core.Bool.{Bool, false, ◌||◌}
 use Prim.Native.Nat.{◌≤◌}

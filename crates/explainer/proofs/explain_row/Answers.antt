@@ -1,4 +1,4 @@
--- the points that are looked back to: the start, from where the row is there; that, from where the rule is known
+-- `explain_row` meets its contract. Assumes nothing.
 use mathlib.Core.Path.{◌≡◌, sym, ap, ◌∙◌}
 use Prim.Native.Nat.{◌/◌, ◌<◌}
 use native.Mathlib.Omega.{arith}

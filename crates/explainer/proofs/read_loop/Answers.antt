@@ -1,4 +1,4 @@
--- the points that are looked back to: the start, from where the child's kind is known; that, from where it is a Seq; its left side's row; that that is a NegPred
+-- `read_loop` meets its contract. Assumes nothing.
 use mathlib.Core.Path.{◌≡◌, sym, ap, ap₂, ◌∙◌}
 use mathlib.Core.List.{[]}
 use Prim.Native.Nat.{ℕ, suc, ◌-◌, ◌/◌}

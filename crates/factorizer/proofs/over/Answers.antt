@@ -1,5 +1,5 @@
--- `over` meets its contract: a row over two trees, or an Opt over the second and a Seq over both. Assumes nothing.
--- the points that are looked back to
+-- `over` meets its contract: a row over two trees, or an Opt over the second and a Seq over both.
+-- Assumes nothing.
 use mathlib.Core.Path.{refl, sym}
 use native.Mathlib.Omega.{arith}
 use Rattle.grammar.specs.Tree.{Opt, Seq, Choice}

@@ -1,4 +1,4 @@
--- the points that are looked back to
+-- `mend` meets its contract. Assumes nothing.
 use Rattle.lister.proofs.Moves.{mended}
 use Rattle.lister.proofs.mend.Goals as goal
 

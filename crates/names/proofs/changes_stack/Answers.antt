@@ -1,4 +1,4 @@
--- src/lib.rt:150:28
+-- `changes_stack` meets its contract. Assumes nothing.
 use Rattle.names.proofs.Marks.{or_yes, or_no, or_last}
 use Rattle.names.proofs.changes_stack.Goals as goal
 

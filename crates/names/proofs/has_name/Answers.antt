@@ -1,4 +1,4 @@
--- src/lib.rt:80:14
+-- `has_name` meets its contract. Assumes nothing.
 use mathlib.Core.Path.{◌∙◌, sym}
 use native.Mathlib.Omega.{arith}
 use Rattle.names.proofs.Marks.{parts_differ}

@@ -1,4 +1,4 @@
--- src/lib.rt:132:9
+-- `is_name` meets its contract. Assumes nothing.
 use mathlib.Core.Path.{◌≡◌, subst}
 use mathlib.Core.Bool.{false}
 use mathlib.Core.List.{List}

@@ -1,4 +1,4 @@
--- src/lib.rt:161:8
+-- `reserved` meets its contract. Assumes nothing.
 use Rattle.names.proofs.Marks.{or_yes, or_no}
 use Rattle.names.proofs.reserved.Goals as goal
 

@@ -1,4 +1,4 @@
--- the points that are looked back to
+-- `put_out` meets its contract. Assumes nothing.
 use mathlib.Core.Path.{◌∙◌}
 use Rattle.packing.proofs.Overs.{stored_over}
 use Rattle.packing.proofs.put_out.Goals as goal

@@ -1,4 +1,4 @@
--- the points that are looked back to
+-- `one_rule` meets its contract. Assumes nothing.
 use native.Mathlib.Omega.{arith}
 use mathlib.Core.Path.{refl, sym, ◌∙◌}
 use Rattle.rows.proofs.Laws.{length_part}

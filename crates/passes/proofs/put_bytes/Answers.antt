@@ -1,4 +1,4 @@
--- src/lib.rt:43:8
+-- `put_bytes` meets its contract. Assumes nothing.
 use native.Mathlib.Omega.{arith}
 use mathlib.Core.Path.{refl}
 use Rattle.rows.proofs.Laws.{length_part}

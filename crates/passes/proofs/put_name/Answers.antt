@@ -1,4 +1,4 @@
--- src/lib.rt:58:21
+-- `put_name` meets its contract. Assumes nothing.
 use Rattle.passes.proofs.Answers.{name_same}
 use borrow.Author.Rules.{rules}
 use Rattle.passes.proofs.put_name.Goals as goal

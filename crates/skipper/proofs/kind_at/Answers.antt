@@ -1,4 +1,4 @@
--- src/lib.rt:485:10
+-- `kind_at` meets its contract. Assumes nothing.
 use Rattle.rows.specs.Rows.{kind_at}
 use borrow.Author.Rules.{rules}
 use Rattle.skipper.proofs.kind_at.Goals as goal

@@ -1,4 +1,4 @@
--- src/lib.rt:347:11
+-- `node_of` meets its contract. Assumes nothing.
 use mathlib.Core.Path.{sym, ap, ◌∙◌}
 use Rattle.skipper.specs.Skips.{node_of, node_by}
 use Rattle.skipper.proofs.node_of.Goals as goal

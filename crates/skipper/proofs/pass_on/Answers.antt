@@ -1,4 +1,4 @@
--- src/lib.rt:404:9
+-- `pass_on` meets its contract. Assumes nothing.
 use mathlib.Core.Path.{refl}
 use Rattle.skipper.proofs.Ways.{passed_relisted, passed_targets}
 use Rattle.skipper.proofs.pass_on.Goals as goal

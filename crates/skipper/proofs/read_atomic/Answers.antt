@@ -1,4 +1,4 @@
--- src/lib.rt:277:14
+-- `read_atomic` meets its contract. Assumes nothing.
 use native.Mathlib.Omega.{arith}
 use Rattle.skipper.proofs.Rules.{steady_none}
 use Rattle.skipper.proofs.Tables.{atomic_no, atomic_yes, rule_tree, rule_fits, tree_rows}

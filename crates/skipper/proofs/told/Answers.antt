@@ -1,4 +1,4 @@
--- src/lib.rt:344:19
+-- `told` meets its contract. Assumes nothing.
 use mathlib.Core.Path.{sym, ◌∙◌}
 use Rattle.skipper.proofs.Ways.{told_list, told_self}
 use Rattle.skipper.proofs.told.Goals as goal

@@ -1,4 +1,4 @@
--- the points that are looked back to
+-- `lay` meets its contract. Assumes nothing.
 use mathlib.Core.Path.{refl}
 use mathlib.Core.List.{[], ◌∷◌, ◌++◌, append-nil}
 use lib.ListN.{replicate}

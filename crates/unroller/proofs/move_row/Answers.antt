@@ -1,4 +1,4 @@
--- the points that are looked back to
+-- `move_row` meets its contract. Assumes nothing.
 use mathlib.Core.Path.{◌≡◌, sym, ap, ◌∙◌}
 use native.Mathlib.Omega.{arith}
 use Prim.Native.Nat.{◌+◌, ◌*◌, ◌^◌, ◌<◌}

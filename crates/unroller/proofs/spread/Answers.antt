@@ -1,4 +1,4 @@
--- the points that are looked back to
+-- `spread` meets its contract. Assumes nothing.
 use mathlib.Core.Path.{◌≡◌, refl}
 use Prim.Native.Nat.{◌-◌}
 use native.Mathlib.Omega.{arith}
