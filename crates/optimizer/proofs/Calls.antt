@@ -1,6 +1,6 @@
 -- The whole call: its refusals, and the fronts of its work areas. Assumes nothing.
-use mathlib.Core.Path.{◌≡◌, ap, sym, ◌∙◌}
-use mathlib.Core.Bool.{Bool, true, false, ◌||◌}
+use mathlib.Core.Path.{◌≡◌, ap}
+use mathlib.Core.Bool.{Bool, false, ◌||◌}
 use mathlib.Core.List.{List, ◌++◌}
 use Prim.Native.Nat.{ℕ, ◌≤◌}
 use native.Mathlib.Omega.{arith}

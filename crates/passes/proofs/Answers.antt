@@ -1,9 +1,9 @@
 -- Answers of steps, as a pass reads them. Assumes nothing.
-use mathlib.Core.Path.{◌≡◌, refl, sym, ap, ◌∙◌, subst}
-use mathlib.Core.List.{List, [], ◌∷◌, ◌++◌, append_assoc}
-use Prim.Native.Nat.{ℕ, ◌+◌, ◌*◌, ◌/◌, ◌≤◌, ◌<◌}
+use mathlib.Core.Path.{◌≡◌, ap, ◌∙◌, subst}
+use mathlib.Core.List.{List, ◌++◌, append_assoc}
+use Prim.Native.Nat.{ℕ, ◌+◌, ◌*◌, ◌/◌, ◌≤◌}
 use native.Mathlib.Omega.{arith}
-use lib.ListN.{length, take, drop, length-append, length-take}
+use lib.ListN.{length, take, length-append, length-take}
 use Rattle.grammar.specs.Numbers.{rule_width, row_width}
 use Rattle.grammar.proofs.Packing.{packed_size}
 use Rattle.rows.proofs.Laws.{length_flat}
@@ -11,7 +11,7 @@ use Rattle.grammar.specs.Basic.{Bytes}
 use Rattle.grammar.specs.Tree.{E, size}
 use Rattle.grammar.specs.Rows.{row, flat}
 use Rattle.grammar.specs.Text.{text_of, packed, bytes_at, resolve}
-use Rattle.writing.specs.Writes.{Fits, Room, Answer, stored}
+use Rattle.writing.specs.Writes.{Room, Answer, stored}
 use Rattle.writing.specs.Keeps.{Kept, KeptAnswer}
 use Rattle.writing.specs.declared.Place.{Place}
 use Rattle.writing.specs.declared.Wrote.{Wrote}

@@ -1,23 +1,22 @@
 -- Steps that cannot grow: what is left of the table that is read fits beside what is written. Assumes nothing.
-use mathlib.Core.Path.{◌≡◌, refl, sym, ap, ap₂, ◌∙◌, subst}
+use mathlib.Core.Path.{◌≡◌, refl, sym, ap, ◌∙◌, subst}
 use mathlib.Core.Bool.{false≢true, Bool, true, false, not, ◌||◌, cond}
 use mathlib.Core.List.{List, [], ◌∷◌, ◌++◌}
-use Prim.Native.Nat.{ℕ, ◌+◌, ◌*◌, ◌/◌, ◌≤◌, ◌<◌}
+use Prim.Native.Nat.{ℕ, ◌+◌, ◌≤◌}
 use native.Mathlib.Omega.{arith}
 use lib.ListN.{length, length-append}
 use lib.Dec.{eqb}
-use Rattle.grammar.specs.Basic.{Bytes, any}
-use Rattle.grammar.specs.Tree.{E, Expr, size, any_node}
+use Rattle.grammar.specs.Basic.{Bytes}
+use Rattle.grammar.specs.Tree.{E, size}
 use Rattle.grammar.specs.Rows.{Span}
 use Rattle.grammar.specs.Text.{bytes_at, resolve, text_of}
 use Rattle.grammar.specs.Table.{Rule, Table, Atomic, row_count, rule_text, table_text, resolve_rule, resolve_table}
-use Rattle.grammar.specs.Steps.{each, on_rule, or_same, bottom_up, concat?, rotate, skip_to, unroll, concatenate, factor, list, restore}
+use Rattle.grammar.specs.Steps.{each, or_same, bottom_up, concat?, rotate, skip_to, unroll, concatenate, factor, list, restore}
 use Rattle.grammar.proofs.Logic.{eqb_eq}
 use Rattle.rotator.proofs.Rotations.{rotate_size, rotate_text}
 use Rattle.concatenator.proofs.Concats.{concat_size, concat_text}
 use Rattle.factorizer.proofs.Factors.{factor_size, factor_text}
 use Rattle.lister.proofs.Lists.{list_size, list_text}
-use Rattle.grammar.specs.Refusals.{zero_count, zero_counts}
 use Rattle.writing.specs.declared.Place.{Place}
 use Rattle.passes.specs.Passes.{step_of, grows, Asks, AsksAll, RuleFits, TableFits}
 use Rattle.passes.proofs.Tables.{count_append, text_append, resolve_append}

@@ -1,19 +1,18 @@
 -- The loop of a pass: what holds at its test, and what one more rule gives. Assumes nothing.
-use mathlib.Core.Path.{◌≡◌, refl, sym, ap, ap₂, ◌∙◌, subst}
-use mathlib.Core.List.{List, [], ◌∷◌, ◌++◌}
-use Prim.Native.Nat.{ℕ, ◌+◌, ◌-◌, ◌*◌, ◌/◌, ◌≤◌, ◌<◌}
+use mathlib.Core.Path.{◌≡◌, refl, sym, ap, ◌∙◌, subst}
+use mathlib.Core.List.{List, ◌∷◌, ◌++◌}
+use Prim.Native.Nat.{ℕ, ◌+◌, ◌*◌, ◌/◌, ◌≤◌, ◌<◌}
 use native.Mathlib.Omega.{arith}
 use lib.ListN.{length, take, get_or, length-append, length-take}
 use Rattle.grammar.specs.Numbers.{rule_width, length_word, type_word, rows_word, row_width}
 use Rattle.grammar.specs.Basic.{Bytes}
 use Rattle.grammar.specs.Tree.{E, Expr, size}
-use mathlib.Core.Bool.{Bool, false}
 use Rattle.grammar.specs.Rows.{Span, flat}
 use Rattle.grammar.specs.Text.{bytes_at, resolve, text_of, packed}
-use Rattle.grammar.specs.Table.{Rule, Table, row_count, row_words, resolve_table}
+use Rattle.grammar.specs.Table.{Rule, Table, row_count, resolve_table}
 use Rattle.grammar.specs.Steps.{each}
 use Rattle.grammar.proofs.Packing.{packed_size}
-use Rattle.rows.specs.Rows.{At, Stands}
+use Rattle.rows.specs.Rows.{At}
 use Rattle.rows.proofs.Laws.{length_flat}
 use Rattle.rows.proofs.Views.{at_unique}
 use Rattle.passes.proofs.Growth.{step_of_less, step_of_text, asks_part, rule_fits_same}
@@ -21,7 +20,7 @@ use Rattle.writing.specs.Writes.{Areas, Room}
 use Rattle.writing.specs.declared.Place.{Place}
 use Rattle.writing.specs.declared.Wrote.{Wrote}
 use Rattle.writing.specs.declared.Wrote.TheVariants.{Done, Full}
-use Rattle.passes.specs.Passes.{step_of, grows, Asks, AsksAll, Lent, RulePrepared, RuleReady, RuleFits, RuleKept, RuleAnswer, Holds, Passing, TableFits, Front}
+use Rattle.passes.specs.Passes.{step_of, Asks, AsksAll, Lent, RulePrepared, RuleReady, RuleFits, RuleKept, RuleAnswer, Holds, Passing, TableFits, Front}
 use Rattle.passes.proofs.Tables.{count_append}
 use Rattle.passes.proofs.Progress.{Progress, Next, start, next_rule, the_next, progress_next, rule_fits, finished, rows_length}
 

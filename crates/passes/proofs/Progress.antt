@@ -1,7 +1,7 @@
 -- A pass, rule by rule: what is done stands packed in front, and the next rule's tree stands where its rows end. Assumes nothing.
 use mathlib.Core.Path.{◌≡◌, refl, sym, ap, ap₂, ◌∙◌, subst}
 use mathlib.Core.List.{List, [], ◌∷◌, ◌++◌, append_assoc, append-nil}
-use Prim.Native.Nat.{ℕ, zero, suc, ◌+◌, ◌-◌, ◌*◌, ◌/◌, ◌≤◌, ◌<◌}
+use Prim.Native.Nat.{ℕ, ◌+◌, ◌*◌, ◌/◌, ◌≤◌, ◌<◌}
 use native.Mathlib.Nat.{zero-add, add-zero}
 use native.Mathlib.Omega.{arith}
 use lib.ListN.{length, take, get_or, length-append}
@@ -11,16 +11,14 @@ use Rattle.grammar.specs.Basic.{Bytes}
 use Rattle.grammar.specs.Tree.{E, size}
 use Rattle.grammar.specs.Rows.{Span, flat, row}
 use Rattle.grammar.specs.Text.{bytes_at, resolve, text_of, packed}
-use Rattle.grammar.specs.Table.{Rule, Table, rule_words, row_words, row_count, rule_text, table_text, packed_rule, packed_from, resolve_rule, resolve_table, words_of, rule_head}
+use Rattle.grammar.specs.Table.{Rule, Table, rule_words, row_words, row_count, rule_text, table_text, packed_rule, packed_from, resolve_rule, resolve_table, rule_head}
 use Rattle.grammar.specs.Steps.{each, on_rule}
 use Rattle.grammar.proofs.Packing.{packed_size}
-use Rattle.grammar.proofs.TopDown.{size_pos}
-use Rattle.rows.specs.Rows.{At, Inside}
+use Rattle.rows.specs.Rows.{At}
 use Rattle.rows.proofs.Laws.{length_flat}
-use Rattle.writing.specs.Writes.{stored}
 use Rattle.writing.specs.declared.Place.{Place}
 use Rattle.writing.proofs.Runs.{take_stored}
-use Rattle.passes.specs.Passes.{step_of, RuleFits, RuleKept, Holds, TableFits, Front}
+use Rattle.passes.specs.Passes.{RuleFits, RuleKept, Holds, TableFits, Front}
 use Rattle.passes.proofs.Tables.{rules_append, rows_append, count_append, text_append, packed_append, resolve_append, each_append, rules_length, each_length, resolve_length}
 
 -- the first i rules are done, their rows end before `end`, and D, what the step F makes of them, stands up to p

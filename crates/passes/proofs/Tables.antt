@@ -1,16 +1,15 @@
 -- Tables grow by a rule at their end: their words, rows and packed text. Assumes nothing.
-use mathlib.Core.Path.{◌≡◌, refl, sym, ap, ap₂, ◌∙◌}
-use mathlib.Core.List.{List, [], ◌∷◌, ◌++◌, map, append_assoc, append-nil}
-use Prim.Native.Nat.{ℕ, zero, suc, ◌+◌, ◌*◌}
-use native.Mathlib.Nat.{add-zero, add_assoc}
+use mathlib.Core.Path.{◌≡◌, refl, sym, ap, ◌∙◌}
+use mathlib.Core.List.{List, [], ◌∷◌, ◌++◌, append_assoc}
+use Prim.Native.Nat.{ℕ, ◌+◌, ◌*◌}
+use native.Mathlib.Nat.{add-zero}
 use native.Mathlib.Omega.{arith}
 use lib.ListN.{length, length-append}
 use Rattle.grammar.specs.Numbers.{rule_width}
 use Rattle.grammar.specs.Basic.{Bytes}
 use Rattle.grammar.specs.Tree.{E, size}
 use Rattle.grammar.specs.Rows.{Span, flat}
-use Rattle.grammar.specs.Text.{text_of, packed}
-use Rattle.grammar.specs.Table.{Rule, Table, rule_words, row_words, row_count, rule_text, table_text, packed_rule, packed_from, resolve_rule, resolve_table}
+use Rattle.grammar.specs.Table.{Table, rule_words, row_words, row_count, rule_text, table_text, packed_rule, packed_from, resolve_rule, resolve_table}
 use Rattle.grammar.specs.Steps.{on_rule, each}
 
 pub rules_append : (s t : Table Span) → rule_words (s ++ t) ≡ rule_words s ++ rule_words t

@@ -1,6 +1,6 @@
 -- Steps by their numbers: what each asks, and what it answers. Assumes nothing.
 use mathlib.Core.Path.{◌≡◌, refl, sym, ap, ◌∙◌, subst}
-use mathlib.Core.Bool.{false≢true, Bool, true, false, cond}
+use mathlib.Core.Bool.{Bool, true, false}
 use mathlib.Core.List.{List}
 use Prim.Native.Nat.{ℕ}
 use lib.Dec.{eqb}
@@ -11,7 +11,7 @@ use Rattle.grammar.specs.Text.{resolve}
 use Rattle.grammar.specs.Table.{Table, resolve_table}
 use Rattle.skipper.specs.Lends.{Given}
 use Rattle.skipper.specs.Skips.{Settles, Settling}
-use Rattle.grammar.specs.Steps.{rotate, unroll, concatenate, factor, list, restore}
+use Rattle.grammar.specs.Steps.{restore}
 use Rattle.restorer.specs.Lends as restorer
 use Rattle.restorer.specs.Lends.{Marked}
 use Rattle.grammar.proofs.Logic.{eqb_eq}
@@ -21,7 +21,7 @@ use Rattle.writing.specs.Keeps.{Ready, KeptAnswer}
 use Rattle.writing.specs.declared.Place.{Place}
 use Rattle.writing.specs.declared.Wrote.{Wrote}
 use Rattle.unroller.specs.Items.{Counted}
-use Rattle.passes.specs.Passes.{step_of, grows, Lent, Asks, Prepared, StepAnswer}
+use Rattle.passes.specs.Passes.{step_of, grows, Lent, Prepared, StepAnswer}
 use Rattle.passes.proofs.Answers.{answer_step, kept_step}
 
 module _ {step type : ℕ} {rs₀ ws₀ : List ℕ} {text₀ : Bytes} {marks ws : List ℕ} {text : Bytes} {root : ℕ} {p : Place} {o t : List ℕ} (s : Stands ws root) (r : Prepared step type rs₀ ws₀ text₀ marks ws text root p o t) where

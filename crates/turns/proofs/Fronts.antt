@@ -1,8 +1,7 @@
 -- A packed table at the front of three areas: the parts that hold it, and the table that they stand for. Assumes nothing.
 use mathlib.Core.Path.{◌≡◌, refl, sym, ap, ap₂, ◌∙◌, subst}
-use mathlib.Core.List.{List, [], ◌∷◌, ◌++◌, append_assoc, append-nil}
-use mathlib.Core.Option.{Option, none, some}
-use Prim.Native.Nat.{ℕ, zero, suc, ◌+◌, ◌-◌, ◌*◌, ◌/◌, ◌≤◌, ◌<◌}
+use mathlib.Core.List.{List, [], ◌∷◌, ◌++◌, append_assoc}
+use Prim.Native.Nat.{ℕ, zero, suc, ◌+◌, ◌-◌, ◌*◌, ◌≤◌, ◌<◌}
 use native.Mathlib.Decide.{dec_lt}
 use native.Mathlib.Omega.{arith}
 use lib.ListN.{length, take, get_or, length-append, length-take}
@@ -10,17 +9,17 @@ use mathlib.Core.Bool.{Bool, ◌||◌}
 use Rattle.grammar.specs.Numbers.{rule_width, length_word, row_width}
 use Rattle.grammar.specs.Refusals.{zero_un, zero_count, zero_counts}
 use Rattle.grammar.specs.Basic.{Bytes}
-use Rattle.grammar.specs.Tree.{E, Expr, size, lit, fixed, skip, un, bin, any_node}
+use Rattle.grammar.specs.Tree.{E, size, lit, fixed, skip, un, bin, any_node}
 use Rattle.grammar.specs.Rows.{Span}
 use Rattle.grammar.specs.Text.{text_of, packed}
-use Rattle.grammar.specs.Table.{Rule, Table, Words, rule_words, row_words, row_count, rule_text, table_text, packed_rule, packed_from, resolve_table, words_of}
+use Rattle.grammar.specs.Table.{Table, rule_words, row_words, row_count, rule_text, table_text, packed_from, resolve_table}
 use Rattle.grammar.proofs.Packing.{table_resolved, packed_size}
-use Rattle.rows.specs.Rows.{At, Inside, LitInside, Within}
+use Rattle.rows.specs.Rows.{Inside, LitInside, Within}
 use Rattle.rows.proofs.Insides.{within_rows}
 use Rattle.writing.proofs.Keeps.{within_packed}
 use Rattle.writing.specs.declared.Place.{Place}
 use Rattle.passes.specs.Passes.{Holds, Front}
-use Rattle.passes.proofs.Tables.{rows_append, count_append, rules_length}
+use Rattle.passes.proofs.Tables.{count_append, rules_length}
 use Rattle.passes.proofs.Progress.{at_rule, rows_length}
 
 -- every literal of a table lies in a text of n bytes

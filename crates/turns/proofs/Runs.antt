@@ -1,7 +1,7 @@
 -- The seven steps, one after the other, from a table that is lent. Assumes nothing.
-use mathlib.Core.Path.{◌≡◌, refl, sym, ap, ap₂, ◌∙◌, subst}
+use mathlib.Core.Path.{◌≡◌, refl, sym, ap, ◌∙◌, subst}
 use mathlib.Core.Bool.{Bool, true, false, ◌||◌}
-use mathlib.Core.List.{List, [], ◌∷◌, map}
+use mathlib.Core.List.{List, [], ◌∷◌}
 use Prim.Native.Nat.{ℕ, ◌*◌, ◌≤◌}
 use native.Mathlib.Omega.{arith}
 use lib.ListN.{length, take}
@@ -21,7 +21,7 @@ use Rattle.skipper.specs.Lends as skipper
 use Rattle.admission.specs.Ready.{Ready}
 use Rattle.passes.specs.Passes.{step_of, Lent, Holds, Front, Passing, PassAnswer}
 use Rattle.passes.proofs.Tables.{rules_length, each_length, resolve_length}
-use Rattle.turns.specs.Chain.{Sized, Works, Stood, Stands, Turning, Turns, Paired, Restoring, Ran, SevenAnswer, rows_of, seven_of, after, rotated, skipped, unrolled, concatenated, factored, listed, restored, all_seven}
+use Rattle.turns.specs.Chain.{Sized, Works, Stood, Stands, Turning, Turns, Paired, Restoring, SevenAnswer, rows_of, seven_of, after, rotated, skipped, unrolled, concatenated, factored, listed, restored, all_seven}
 use Rattle.turns.specs.declared.Two.{Two}
 use Rattle.turns.specs.declared.Seven.{Seven}
 use Rattle.turns.specs.declared.Seven.TheVariants as seven

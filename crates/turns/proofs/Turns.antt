@@ -1,6 +1,6 @@
 -- A turn is a pass over the parts that hold the packed table. Assumes nothing.
-use mathlib.Core.Path.{◌≡◌, refl, sym, ap, ◌∙◌, subst}
-use mathlib.Core.Bool.{Bool, false, ◌||◌}
+use mathlib.Core.Path.{◌≡◌, sym, ap, ◌∙◌, subst}
+use mathlib.Core.Bool.{Bool, ◌||◌}
 use mathlib.Core.List.{List}
 use Prim.Native.Nat.{ℕ, ◌*◌, ◌/◌, ◌^◌, ◌≤◌, ◌<◌}
 use native.Mathlib.Omega.{arith}
@@ -14,17 +14,16 @@ use Rattle.grammar.specs.Refusals.{too_large}
 use Rattle.grammar.specs.Steps.{each, restore}
 use Rattle.grammar.specs.Optimize.{over}
 use Rattle.names.specs.Names.{AllIndexed}
-use Rattle.writing.specs.Writes.{Areas}
 use Rattle.writing.specs.declared.Place.{Place}
 use Rattle.writing.specs.declared.Wrote.{Wrote}
-use Rattle.writing.specs.declared.Wrote.TheVariants.{Done, Full}
+use Rattle.writing.specs.declared.Wrote.TheVariants.{Done}
 use Rattle.packing.specs.Packing.{Covers}
 use Rattle.restorer.specs.Lends.{Marked, Settles}
 use Rattle.passes.specs.Passes.{AsksAll, Lent, Holds, Held, Front, Passing, TableFits, PassAnswer, step_of}
 use Rattle.passes.proofs.Tables.{each_length}
-use Rattle.turns.specs.Chain.{Sized, Works, Stood, Stands, Turning, after}
+use Rattle.turns.specs.Chain.{Sized, Stood, Stands, Turning, after}
 use Rattle.turns.proofs.Fronts.{holds_front, front_is, front_within}
-use Rattle.turns.proofs.Sizes.{sized_areas, sized_room, front_few, front_fine, front_stood, pass_stood}
+use Rattle.turns.proofs.Sizes.{sized_room, front_few, front_fine, front_stood, pass_stood}
 use Rattle.turns.proofs.Asking.{asks_seven}
 
 pub holds_part : {p : Place} (t : Table Bytes) {os o s : List ℕ} (n : ℕ) → n ≡ length t * rule_width → Front p t os o s → Holds (packed_from 0 t) (take n os) (take (p.rows * row_width) o) (take p.text s)

@@ -7,7 +7,6 @@ use Rattle.grammar.specs.Refusals.{max_text, full_rules, full_rows}
 use Rattle.turns.specs.Chain.{all_seven}
 use Rattle.optimizer.proofs.Calls.{cut_works, put_back}
 use Rattle.optimizer.proofs.Finishing.{answer_longer}
-use borrow.Author.Rules.{rules}
 use Rattle.optimizer.proofs.steps.Goals as goal
 
 pub slice_bounds-all_steps-end : goal.slice_bounds-all_steps-end

@@ -16,7 +16,6 @@ use Rattle.factorizer.proofs.Quiets as factorizer
 use Rattle.lister.proofs.Quiets as lister
 use Rattle.passes.specs.Passes.{node_of}
 use Rattle.passes.proofs.Stills.{node_at, factor_none, list_none}
-use borrow.Author.Rules.{rules}
 use Rattle.passes.proofs.fires.Goals as goal
 
 pub overflow_mul-k : goal.overflow_mul-k

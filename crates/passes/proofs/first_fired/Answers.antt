@@ -1,6 +1,6 @@
-use mathlib.Core.Path.{◌≡◌, refl, sym, ◌∙◌, subst}
-use Prim.Native.Nat.{ℕ, ◌+◌, ◌-◌, ◌*◌, ◌/◌, ◌≤◌, ◌<◌}
-use lib.ListN.{length, get_or}
+use mathlib.Core.Path.{◌≡◌, refl, ◌∙◌, subst}
+use Prim.Native.Nat.{ℕ, ◌+◌, ◌-◌, ◌*◌}
+use lib.ListN.{get_or}
 use native.Mathlib.Omega.{arith}
 use borrow.Author.Count.{below_more}
 use borrow.Author.Tests.{not-false}
@@ -9,9 +9,8 @@ use Rattle.grammar.proofs.TopDown.{size_pos}
 use Rattle.rows.proofs.Laws.{root}
 use Rattle.names.specs.Names.{rows_before}
 use Rattle.names.proofs.Marks.{before_step}
-use Rattle.passes.specs.Passes.{Leaves, LeavesFrom}
+use Rattle.passes.specs.Passes.{Leaves}
 use Rattle.passes.proofs.Calms.{Following, following, cut}
-use borrow.Author.Rules.{rules}
 use Rattle.passes.proofs.first_fired.Goals as goal
 
 pub returns-then-step-eq-RESTORE_STEP : goal.returns-then-step-eq-RESTORE_STEP

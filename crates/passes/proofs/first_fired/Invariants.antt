@@ -1,18 +1,11 @@
 -- `first_fired` meets its contract: the step leaves each rule that the loop passed as it is. Assumes nothing.
 -- rule i begins at row `begin`, and those before it are left as they are
-use mathlib.Core.Path.{◌≡◌, refl, sym, ◌∙◌, subst}
-use Prim.Native.Nat.{ℕ, ◌+◌, ◌-◌, ◌*◌, ◌/◌, ◌≤◌, ◌<◌}
-use lib.ListN.{length, get_or}
-use native.Mathlib.Omega.{arith}
-use borrow.Author.Count.{below_more}
-use borrow.Author.Tests.{not-false}
-use Rattle.grammar.specs.Numbers.{rule_width, type_word, rows_word}
-use Rattle.grammar.proofs.TopDown.{size_pos}
-use Rattle.rows.proofs.Laws.{root}
+use mathlib.Core.Path.{◌≡◌}
+use Prim.Native.Nat.{◌-◌, ◌/◌, ◌≤◌}
+use lib.ListN.{length}
+use Rattle.grammar.specs.Numbers.{rule_width}
 use Rattle.names.specs.Names.{rows_before}
-use Rattle.names.proofs.Marks.{before_step}
-use Rattle.passes.specs.Passes.{Leaves, LeavesFrom}
-use Rattle.passes.proofs.Calms.{Following, following, cut}
+use Rattle.passes.specs.Passes.{LeavesFrom}
 use Rattle.passes.proofs.first_fired.Given as goal
 
 abbrev pub invariant-loop-i : goal.invariant-loop-i

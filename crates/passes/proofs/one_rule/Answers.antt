@@ -1,9 +1,8 @@
 -- `one_rule` meets its contract. Assumes nothing.
 use native.Mathlib.Omega.{arith}
-use mathlib.Core.Path.{refl, sym, ◌∙◌}
+use mathlib.Core.Path.{sym}
 use Rattle.rows.proofs.Laws.{length_part}
 use Rattle.passes.proofs.Answers.{name_done, step_done, no_name, no_tree, rule_kept, name_length_lem, name_room, kept_within, prepared}
-use borrow.Author.Rules.{rules}
 use Rattle.passes.proofs.one_rule.Goals as goal
 
 pub returns-in_default : goal.returns-in_default

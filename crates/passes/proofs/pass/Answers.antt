@@ -1,7 +1,6 @@
 use borrow.Author.Tests.{ltb-true}
 use mathlib.Core.Path.{◌≡◌, refl, sym, ◌∙◌, subst}
-use mathlib.Core.Logic.{⊎_elim}
-use Prim.Native.Nat.{ℕ, ◌+◌, ◌-◌, ◌*◌, ◌/◌, ◌<◌, ◌≤◌}
+use Prim.Native.Nat.{◌+◌, ◌-◌, ◌*◌, ◌/◌, ◌<◌, ◌≤◌}
 use native.Mathlib.Omega.{arith}
 use lib.ListN.{length, get_or}
 use Rattle.grammar.specs.Numbers.{rule_width, rows_word}
@@ -9,8 +8,7 @@ use Rattle.grammar.proofs.TopDown.{size_pos}
 use Rattle.names.specs.Names.{rows_before}
 use Rattle.names.proofs.Marks.{before_step}
 use Rattle.passes.specs.Passes.{LeavesFrom}
-use Rattle.passes.proofs.Loops.{Loop, Here, loop_start, here, ready, rule_prepared, loop_next, loop_full, loop_done}
-use borrow.Author.Rules.{rules}
+use Rattle.passes.proofs.Loops.{Here, loop_start, here, ready, rule_prepared, loop_next, loop_full, loop_done}
 use Rattle.passes.proofs.pass.Goals as goal
 use Rattle.passes.proofs.pass.Goals.{then-i-next, else-i-next}
 

@@ -1,17 +1,12 @@
 -- `pass` meets its contract: rule by rule, those before the next that may change known. Assumes nothing.
 -- rule i begins at row `end`, and those from it up to rule `next` are left as they are
-use borrow.Author.Tests.{ltb-true}
-use mathlib.Core.Path.{◌≡◌, refl, sym, ◌∙◌, subst}
-use mathlib.Core.Logic.{⊎_elim}
-use Prim.Native.Nat.{ℕ, ◌+◌, ◌-◌, ◌*◌, ◌/◌, ◌<◌, ◌≤◌}
-use native.Mathlib.Omega.{arith}
-use lib.ListN.{length, get_or}
-use Rattle.grammar.specs.Numbers.{rule_width, rows_word}
-use Rattle.grammar.proofs.TopDown.{size_pos}
+use mathlib.Core.Path.{◌≡◌}
+use Prim.Native.Nat.{◌-◌, ◌/◌}
+use lib.ListN.{length}
+use Rattle.grammar.specs.Numbers.{rule_width}
 use Rattle.names.specs.Names.{rows_before}
-use Rattle.names.proofs.Marks.{before_step}
 use Rattle.passes.specs.Passes.{LeavesFrom}
-use Rattle.passes.proofs.Loops.{Loop, Here, loop_start, here, ready, rule_prepared, loop_next, loop_full, loop_done}
+use Rattle.passes.proofs.Loops.{Loop}
 use Rattle.passes.proofs.pass.Given as goal
 
 abbrev pub invariant-loop-i : goal.invariant-loop-i

@@ -2,7 +2,6 @@
 use native.Mathlib.Omega.{arith}
 use mathlib.Core.Path.{refl}
 use Rattle.rows.proofs.Laws.{length_part}
-use borrow.Author.Rules.{rules}
 use Rattle.passes.proofs.put_bytes.Goals as goal
 
 pub returns-then-lits-from : goal.returns-then-lits-from

@@ -1,6 +1,5 @@
 -- `put_name` meets its contract. Assumes nothing.
 use Rattle.passes.proofs.Answers.{name_same}
-use borrow.Author.Rules.{rules}
 use Rattle.passes.proofs.put_name.Goals as goal
 
 pub returns : goal.returns

@@ -1,14 +1,8 @@
 use mathlib.Core.Bool.{false≢true}
-use Prim.Native.Nat.{ℕ, ◌+◌, ◌-◌, ◌/◌, ◌≤◌, ◌<◌}
-use lib.ListN.{length}
 use native.Mathlib.Omega.{arith}
 use borrow.Author.Count.{below_more}
-use Rattle.grammar.specs.Numbers.{row_width}
-use Rattle.rows.specs.Rows.{size_at, Stands}
 use Rattle.rows.proofs.Laws.{root}
 use Rattle.scans.proofs.Laws.{rows_stand}
-use Rattle.passes.proofs.Stills.{Quiet}
-use borrow.Author.Rules.{rules}
 use Rattle.passes.proofs.quiet.Goals as goal
 
 pub loop-i-init : goal.loop-i-init

@@ -1,14 +1,9 @@
 -- `quiet` meets its contract: no row that the loop passed is rewritten. Assumes nothing.
 -- each row of the tree ends a subtree, and none before row i is rewritten
-use mathlib.Core.Bool.{false≢true}
 use Prim.Native.Nat.{ℕ, ◌+◌, ◌-◌, ◌/◌, ◌≤◌, ◌<◌}
 use lib.ListN.{length}
-use native.Mathlib.Omega.{arith}
-use borrow.Author.Count.{below_more}
 use Rattle.grammar.specs.Numbers.{row_width}
 use Rattle.rows.specs.Rows.{size_at, Stands}
-use Rattle.rows.proofs.Laws.{root}
-use Rattle.scans.proofs.Laws.{rows_stand}
 use Rattle.passes.proofs.Stills.{Quiet}
 use Rattle.passes.proofs.quiet.Given as goal
 

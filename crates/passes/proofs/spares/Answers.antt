@@ -6,7 +6,6 @@ use Rattle.skipper.proofs.Skipping.{skip_other}
 use Rattle.passes.specs.Passes.{step_of}
 use Rattle.passes.proofs.Growth.{step_two, step_four}
 use Rattle.passes.proofs.Stills.{concat_other}
-use borrow.Author.Rules.{rules}
 use Rattle.passes.proofs.spares.Goals as goal
 
 pub returns-then-kind-eq-ATOMIC : goal.returns-then-kind-eq-ATOMIC

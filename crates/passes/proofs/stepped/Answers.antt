@@ -2,7 +2,6 @@
 -- the function's entry
 use mathlib.Core.Path.{refl}
 use Rattle.passes.proofs.Walks.{exact_by}
-use borrow.Author.Rules.{rules}
 use Rattle.passes.proofs.stepped.Goals as goal
 
 pub returns-then-known : goal.returns-then-known

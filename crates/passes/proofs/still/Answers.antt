@@ -1,6 +1,5 @@
 -- `still` meets its contract: a step whose rewrite finds nothing at any row leaves the tree as it is. Assumes nothing.
 use Rattle.passes.proofs.Stills.{step_idle}
-use borrow.Author.Rules.{rules}
 use Rattle.passes.proofs.still.Goals as goal
 
 pub returns-then-spares : goal.returns-then-spares

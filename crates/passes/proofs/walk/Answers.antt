@@ -5,7 +5,6 @@ use mathlib.Core.Path.{refl, sym, ◌∙◌}
 use Rattle.rows.proofs.Laws.{root_there}
 use Rattle.passes.proofs.Walks.{ready_for, counted_for, given_for, settling_for, settles_for, marked_for, known_for, lent_for, look_for, kept_by, exact_by, other_step}
 use Rattle.passes.proofs.Growth.{step_one, step_two, step_three, step_four, step_five, step_six, step_seven}
-use borrow.Author.Rules.{rules}
 use Rattle.passes.proofs.walk.Goals as goal
 
 pub returns-in_default : goal.returns-in_default

@@ -9,7 +9,6 @@ use Rattle.passes.specs.Passes.{Lent}
 use Rattle.turns.specs.Chain.{Works, Stood, Paired, rotated, skipped, unrolled, concatenated, factored, listed, restored}
 use Rattle.turns.proofs.Sizes.{sized_areas, sized_same}
 use Rattle.turns.proofs.Runs.{large3, large5, large6, ready_lent, first_passing, first_rules, first_stood, rotated_count, unrolled_count, factored_count, listed_count, skip_turns, join_turns, list_turning, restoring, seven_answer}
-use borrow.Author.Rules.{rules}
 use Rattle.turns.proofs.all_steps.Goals as goal
 
 pub first_fired-stay-requires-clause-held : goal.first_fired-stay-requires-clause-held

@@ -1,5 +1,4 @@
 use Rattle.turns.proofs.Runs.{seven_of_lem}
-use borrow.Author.Rules.{rules}
 use Rattle.turns.proofs.joined.Goals as goal
 
 pub returns : goal.returns

@@ -1,7 +1,6 @@
 -- the function's entry, from before the first turn, and that turn, from before the second
 use Rattle.turns.proofs.Sizes.{sized_same, stood_rows, count_after}
 use Rattle.turns.proofs.Runs.{second_turn}
-use borrow.Author.Rules.{rules}
 use Rattle.turns.proofs.two_steps.Goals as goal
 
 pub turn-q-requires : goal.turn-q-requires
