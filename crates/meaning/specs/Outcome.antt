@@ -59,7 +59,7 @@ stopped zero p = ok p
 stopped (suc n) p = fail
 
 -- `Out t s e p r`: under the table t, e at position p of the input s gives r, in finitely many steps. "Otherwise there is none": so have
--- Push, PeekSlice and an Ident of no rule. The names end in -ok or -go where a child succeeds, in -no or -end where it fails
+-- Push, PeekSlice and an Ident of no rule. The names end in _ok or _go where a child succeeds, in _no or _end where it fails
 pub data Out (t : Table Bytes) (s : Bytes) : E → ℕ → Res → Type 0 where
   -- "Str and Insens take their bytes, Range and ANY one byte, Ident its rule"
   str : {w : Bytes} {p : ℕ} {r : Res} → bytes eqb s w p ≡ r → Out t s (lit Str w) p r
