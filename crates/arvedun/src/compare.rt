@@ -7,7 +7,7 @@ ghost use Rattle.arvedun.specs.Compare.{seen_list, seen_literal};
 
 // What comparing answers: the refusal's number or 0, whose table it is (0 left, 1 right), and the number of entries.
 #[repr(C)]
-#[derive(Drop)]
+#[derive(Clone, Copy)]
 pub struct ArvedunCompared {
     pub number: u32,
     pub side: u32,
@@ -16,7 +16,7 @@ pub struct ArvedunCompared {
 
 // A literal: 1 and a part of its side's text, or zeros.
 #[repr(C)]
-#[derive(Drop)]
+#[derive(Clone, Copy)]
 pub struct ArvedunLiteral {
     pub found: u32,
     pub offset: u32,

@@ -7,7 +7,7 @@ ghost use Rattle.arvedun.specs.Explain.{seen_explained};
 // What explaining answers: the refusal's number or 0; the answer, the rule and the row at which the reading ended, the rule met again, and how many
 // were being read then.
 #[repr(C)]
-#[derive(Drop)]
+#[derive(Clone, Copy)]
 pub struct ArvedunExplained {
     pub number: u32,
     pub answer: u32,

@@ -14,7 +14,7 @@ use optimizer::REPORT;
 
 // What a call answers: the refusal's number or 0, the counts, and for each step the rows before and after it.
 #[repr(C)]
-#[derive(Drop)]
+#[derive(Clone, Copy)]
 pub struct ArvedunAnswer {
     pub number: u32,
     pub rules: u32,

@@ -47,7 +47,7 @@ const LEFT: u32 = 0;
 const RIGHT: u32 = 1;
 
 // What a comparison answers: the refusal's number or 0, whose table is refused, and the number of entries.
-#[derive(Drop)]
+#[derive(Clone, Copy)]
 pub struct Compared {
     pub number: u32,
     pub side: u32,
@@ -55,7 +55,7 @@ pub struct Compared {
 }
 
 // The literal of a row: 1 and a part of the side's text, or zeros.
-#[derive(Drop)]
+#[derive(Clone, Copy)]
 pub struct Literal {
     pub found: u32,
     pub offset: u32,
@@ -63,7 +63,7 @@ pub struct Literal {
 }
 
 // Where two trees differ: the first differing row, counted from their first rows, or the shorter one's size if it is a prefix.
-#[derive(Drop)]
+#[derive(Clone, Copy)]
 pub enum Differs {
     At(usize),
     Nowhere,

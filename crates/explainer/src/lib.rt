@@ -61,7 +61,7 @@ const MET_AGAIN: u32 = 9;
 
 // What a row is answered: the refusal's number or 0, and then the answer, the rule and the row at which the reading of its list ended, the rule met again,
 // and how many were being read then.
-#[derive(Drop)]
+#[derive(Clone, Copy)]
 pub struct Explained {
     pub number: u32,
     pub answer: u32,
@@ -72,7 +72,7 @@ pub struct Explained {
 }
 
 // How a reading ended: the answer, the rule and the row of it, the rule met again, and how many were being read then.
-#[derive(Drop)]
+#[derive(Clone, Copy)]
 pub struct Told {
     pub answer: u32,
     pub rule: u32,

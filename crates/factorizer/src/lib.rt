@@ -21,7 +21,7 @@ use grammar::{ATOMIC, CHOICE, COMPOUND_ATOMIC, OPT, PAIR, ROW_WIDTH, SEQ, STR};
 use writing::{Place, Wrote};
 
 // The roots of a Seq's two sides.
-#[derive(Drop)]
+#[derive(Clone, Copy)]
 pub enum Sides {
     Split { head: usize, tail: usize },
     Other,
@@ -29,7 +29,7 @@ pub enum Sides {
 
 // What a Choice of two subtrees is, by the roots that it goes on with:
 // (a~b)|(a~c); (a~b)|a in a tight rule; a|(a~b); all else.
-#[derive(Drop)]
+#[derive(Clone, Copy)]
 pub enum Case {
     Heads { a: usize, b: usize, c: usize },
     Tail { a: usize, b: usize },
@@ -135,7 +135,7 @@ fn end(out: &mut [u32], p: Place, q: Place, kind: u32, x: u32, y: u32) -> Wrote
 }
 
 // The rows of a node's two sides.
-#[derive(Drop)]
+#[derive(Clone, Copy)]
 pub enum Parts {
     Two { kind: u32, l: usize, r: usize },
     Fewer,
@@ -146,7 +146,7 @@ const ALONE: u32 = 0;
 
 // What is written for a tree: the factored subtree of row x, then that of row y or, where `two`, of the Choice of rows y and z,
 // and the rows over them: by `kind` 8 a Seq, 9 a Choice, 10 an Opt over the second and a Seq; by 0 the first alone is written.
-#[derive(Drop)]
+#[derive(Clone, Copy)]
 pub struct Plan {
     x: usize,
     two: bool,

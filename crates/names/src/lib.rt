@@ -17,21 +17,21 @@ use grammar::{LENGTH, MARK_WIDTH, ROWS, RULE_WIDTH};
 use rows::wide;
 
 // What a search by name finds.
-#[derive(Drop)]
+#[derive(Clone, Copy)]
 pub enum Found {
     At(usize),
     Nothing,
 }
 
 // A slot of the index, and what it holds.
-#[derive(Drop)]
+#[derive(Clone, Copy)]
 struct Spot {
     slot: usize,
     holds: usize,
 }
 
 // Where two names differ.
-#[derive(Drop)]
+#[derive(Clone, Copy)]
 enum Apart {
     Position(usize),
     Nowhere,

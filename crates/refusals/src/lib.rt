@@ -38,7 +38,7 @@ const STRETCH: usize = 64;
 const LAST_OF_STRETCH: usize = 63;
 
 // What a check finds: nothing to refuse, or a refusal's number.
-#[derive(Drop)]
+#[derive(Clone, Copy)]
 pub enum Verdict {
     Fine,
     Refused(u32),

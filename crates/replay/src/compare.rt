@@ -13,7 +13,7 @@ use refusals::FULL_MARKS;
 const LIST_AREA: usize = 2064;
 
 // A rule and a row whose literal is asked for, if they are there: `whole`.
-#[derive(Drop)]
+#[derive(Clone, Copy)]
 pub struct Place {
     pub rule: usize,
     pub row: usize,

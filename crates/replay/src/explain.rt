@@ -13,7 +13,7 @@ use refusals::FULL_MARKS;
 const LIST_AREA: usize = 272;
 
 // The row that is asked about, if it is there: `whole`.
-#[derive(Drop)]
+#[derive(Clone, Copy)]
 pub struct Asked {
     pub row: usize,
     pub whole: bool,

@@ -17,7 +17,7 @@ pub fn area() -> [u8; CASE_BYTES] {
 }
 
 // A case's first four words, if what they count is carried and there: `whole`; else zeros.
-#[derive(Drop)]
+#[derive(Clone, Copy)]
 pub struct Case {
     pub rules: usize,
     pub rows: usize,

@@ -41,7 +41,7 @@ const COMPARE: u32 = 1;
 const EXPLAIN: u32 = 2;
 
 // Where the run stands: the answers not yet written are [..put].
-#[derive(Drop)]
+#[derive(Clone, Copy)]
 struct State {
     put: usize,
     on: bool,

@@ -13,7 +13,7 @@ pub fn area() -> [u8; ANSWERS] {
 }
 
 // Where the next piece goes, and whether the area that was given out is unchanged past its answer.
-#[derive(Drop)]
+#[derive(Clone, Copy)]
 struct Given {
     put: usize,
     same: bool,

@@ -44,7 +44,7 @@ const OPEN: u32 = 4;
 const NOWHERE: usize = 4294967295;
 
 // What a row says of the stack: it can change, or nothing shows and the search goes on before this row, with the position of the open rule that it names, or a rule that was not seen is to say it.
-#[derive(Drop)]
+#[derive(Clone, Copy)]
 enum Step {
     Changes,
     Next(usize, usize),
@@ -52,7 +52,7 @@ enum Step {
 }
 
 // How a search ends: a change is reached, or nothing shows, with the lowest position that was named; and where the open rules end.
-#[derive(Drop)]
+#[derive(Clone, Copy)]
 enum Outcome {
     Reached(usize),
     Silent(usize, usize),
@@ -352,7 +352,7 @@ pub fn still(rows: &[u32], text: &[u8]) -> bool
 }
 
 // The place after a tree that was written, with whether the stack can change through it; or Full where it does not fit.
-#[derive(Drop)]
+#[derive(Clone, Copy)]
 enum Restored {
     To(Place, bool),
     Full,

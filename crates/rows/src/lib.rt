@@ -11,7 +11,7 @@ ghost use Rattle.rows.specs.Rows.{kind_at, size_at, row_at, shape_of, cell_at, T
 use grammar::{CHOICE, IDENT, POS_PRED, RANGE, ROW_WIDTH, SEQ, SIZE, SKIP, X, Y};
 
 // What a row lookup finds.
-#[derive(Drop)]
+#[derive(Clone, Copy)]
 pub enum Lookup {
     Row {
         kind: u32,
@@ -23,7 +23,7 @@ pub enum Lookup {
 }
 
 // What a row of a kind has: a literal, two numbers, one child, two children, strings.
-#[derive(Drop)]
+#[derive(Clone, Copy)]
 pub enum Shape {
     Lit,
     Num,

@@ -40,21 +40,21 @@ const NONE: u32 = 2;
 const LIST: u32 = 3;
 
 // Where the expression of a loop stands.
-#[derive(Drop)]
+#[derive(Clone, Copy)]
 enum Loop {
     Over(usize),
     Nothing,
 }
 
 // Whether every list could be read.
-#[derive(Drop)]
+#[derive(Clone, Copy)]
 pub enum Readings {
     Read,
     Again,
 }
 
 // How a walk from the top goes on: with no child, with one, with two.
-#[derive(Drop)]
+#[derive(Clone, Copy)]
 enum Node {
     Leaf,
     Single,
@@ -62,7 +62,7 @@ enum Node {
 }
 
 // Where a way down through rows with one child ends: with nothing to skip, at a loop over row e that has a list, at a row with two children.
-#[derive(Drop)]
+#[derive(Clone, Copy)]
 enum Fallen {
     Plain,
     Looped { base: usize, e: usize },

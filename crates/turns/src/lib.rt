@@ -18,14 +18,14 @@ use passes::{
 use writing::{Place, Wrote};
 
 // What each of two steps wrote.
-#[derive(Drop)]
+#[derive(Clone, Copy)]
 pub struct Two {
     pub first: Wrote,
     pub last: Wrote,
 }
 
 // Seven steps: the rows after the first six, and where the last's table ends.
-#[derive(Drop)]
+#[derive(Clone, Copy)]
 pub enum Seven {
     Done(usize, usize, usize, usize, usize, usize, Place),
     Full,

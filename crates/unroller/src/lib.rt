@@ -37,7 +37,7 @@ pub struct Items {
 }
 
 // An item, and how often each item follows it.
-#[derive(Drop)]
+#[derive(Clone, Copy)]
 pub struct Split {
     pub item: Item,
     pub rest: Items,

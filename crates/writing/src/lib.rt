@@ -110,7 +110,7 @@ pub fn put_lit(
 }
 
 // Literals that stand side by side in a text and go to `at`: `size` bytes from `from` on, not yet copied.
-#[derive(Drop)]
+#[derive(Clone, Copy)]
 struct Run {
     from: usize,
     size: usize,
@@ -118,7 +118,7 @@ struct Run {
 }
 
 // The run after one more literal, or Full where that does not fit.
-#[derive(Drop)]
+#[derive(Clone, Copy)]
 enum Ran {
     Done(Run),
     Full,
