@@ -2,7 +2,6 @@ use mathlib.Core.Path.{sym, ◌∙◌}
 use mathlib.Core.Bool.{false≢true}
 use Rattle.rows.proofs.Cells.{tells_yes, tells_no}
 use Rattle.factorizer.proofs.Splits.{told_split, told_other, stands_in, plain_heads, plain_tail, plain_first, plain_other}
-use borrow.Author.Tests.{not-true, not-false}
 use Rattle.factorizer.proofs.case_of.Goals as goal
 
 pub same_tree-requires-clause-stands_in : goal.same_tree-requires-clause-stands_in
@@ -20,7 +19,7 @@ same_tree-requires-clause-stands_in_2 c = let t = c.args.text.now in
 pub returns-then-not-tight : goal.returns-then-not-tight
 returns-then-not-tight c = let t = c.args.text.now in let w = c.args.rows.now in
     λ x y a b. let l = told_split w t x c.in-Split.is (c.split-left.ensures t x a) in
-    plain_tail c.args.tight w t x y l (told_other w t y c.in-Other-right.is (c.split-right.ensures t y b)) (λ e. absurd (false≢true (sym (not-true _ c.if-not-tight.true-raw) ∙ e)))
+    plain_tail c.args.tight w t x y l (told_other w t y c.in-Other-right.is (c.split-right.ensures t y b)) (λ e. absurd (false≢true (sym c.if-not-tight.true ∙ e)))
 
 pub same_tree-requires-in-Other-right-clause-stands_in : goal.same_tree-requires-in-Other-right-clause-stands_in
 same_tree-requires-in-Other-right-clause-stands_in c = let t = c.args.text.now in
@@ -57,7 +56,7 @@ returns-else-same_tree c = let t = c.args.text.now in let w = c.args.rows.now in
 pub returns-then-same_tree-2 : goal.returns-then-same_tree-2
 returns-then-same_tree-2 c = let t = c.args.text.now in let w = c.args.rows.now in
     λ x y a b. let l = told_split w t x c.in-Split.is (c.split-left.ensures t x a) in
-    record { rule = not-false _ c.if-not-tight.false-raw; left = l; right = told_other w t y c.in-Other-right.is (c.split-right.ensures t y b); same = tells_yes c.if-same_tree-2.true (c.same_tree-in-Other-right.ensures _ y l.at_head b) }
+    record { rule = c.if-not-tight.false; left = l; right = told_other w t y c.in-Other-right.is (c.split-right.ensures t y b); same = tells_yes c.if-same_tree-2.true (c.same_tree-in-Other-right.ensures _ y l.at_head b) }
 
 pub returns-else-same_tree-2 : goal.returns-else-same_tree-2
 returns-else-same_tree-2 c = let t = c.args.text.now in let w = c.args.rows.now in

@@ -3,7 +3,6 @@ use Prim.Native.Nat.{◌/◌}
 use native.Mathlib.Omega.{arith}
 use lib.ListN.{length}
 use Rattle.grammar.specs.Numbers.{rule_width}
-use borrow.Author.Tests.{not-true, not-false}
 use mathlib.Core.Bool.{true≢false}
 use Rattle.names.proofs.Index.{indexed_all}
 use borrow.Author.Rules.{rules}
@@ -31,13 +30,13 @@ pub shape_of-marks-then-not-index_name : goal.shape_of-marks-then-not-index_name
 shape_of-marks-then-not-index_name c = c.index_name.auto.marks ∙ c.loop-i.invariant.1 ∙ c.clear.auto.marks
 
 pub returns-then-not-index_name : goal.returns-then-not-index_name
-returns-then-not-index_name c = record { yes = λ e. search rules; no = λ _. c.index_name.ensures.no (not-true _ c.if-not-index_name.true-raw) }
+returns-then-not-index_name c = record { yes = λ e. search rules; no = λ _. c.index_name.ensures.no c.if-not-index_name.true }
 
 pub loop-i-smaller : goal.loop-i-smaller
 loop-i-smaller c = omega (arith, c.loop-i-test.true)
 
 pub loop-i-preserved : goal.loop-i-preserved
-loop-i-preserved c = let l = c.loop-i in (omega (arith, c.loop-i-test.true), c.index_name.auto.marks ∙ l.invariant.1, c.index_name.ensures.yes (not-false _ c.if-not-index_name.false-raw))
+loop-i-preserved c = let l = c.loop-i in (omega (arith, c.loop-i-test.true), c.index_name.auto.marks ∙ l.invariant.1, c.index_name.ensures.yes c.if-not-index_name.false)
 
 pub shape_of-marks : goal.shape_of-marks
 shape_of-marks c = c.loop-i.invariant.1 ∙ c.clear.auto.marks

@@ -3,7 +3,6 @@ use Prim.Native.Nat.{ℕ, ◌+◌, ◌-◌, ◌*◌}
 use lib.ListN.{get_or}
 use native.Mathlib.Omega.{arith}
 use borrow.Author.Count.{below_more}
-use borrow.Author.Tests.{not-false}
 use Rattle.grammar.specs.Numbers.{rule_width, type_word, rows_word}
 use Rattle.grammar.proofs.TopDown.{size_pos}
 use Rattle.rows.proofs.Laws.{root}
@@ -60,7 +59,7 @@ loop-i-preserved c = let w = c.wide in
     let f : l.begin + w.result ≡ rows_before c.args.rules.now (l.i + 1) = e ∙ before_step c.args.rules.now l.i l.begin v.3 in
     let h : (k : ℕ) → k + 1 ≡ rows_before c.args.rules.now (l.i + 1) → Leaves c.args.step (get_or c.args.rules.now (l.i * rule_width + type_word) 0) c.args.rows.now c.args.text.now k = λ k q.
     let z : l.begin + w.result - 1 ≡ k = omega (arith, q, f) in
-    subst (λ (x : ℕ). Leaves c.args.step (get_or c.args.rules.now (l.i * rule_width + type_word) 0) c.args.rows.now c.args.text.now x) z (c.still.ensures (not-false _ c.if-not-still.false-raw)) in
+    subst (λ (x : ℕ). Leaves c.args.step (get_or c.args.rules.now (l.i * rule_width + type_word) 0) c.args.rows.now c.args.text.now x) z (c.still.ensures c.if-not-still.false) in
     (v.0, omega (arith, v.1), omega (arith, c.loop-i-test.true), f, below_more _ _ v.4 (λ _. h))
 
 pub returns : goal.returns

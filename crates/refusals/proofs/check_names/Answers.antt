@@ -1,6 +1,5 @@
 use mathlib.Core.Path.{refl, sym, subst, ◌∙◌}
 use mathlib.Core.Logic.{inl, inr}
-use borrow.Author.Tests.{not-true, not-false}
 use Rattle.rows.proofs.Cells.{tells_yes, tells_no}
 use Rattle.names.specs.Names.{AllIndexed, Ended}
 use Rattle.names.proofs.Marks.{ended}
@@ -9,13 +8,13 @@ use Rattle.refusals.proofs.Apart.{indexed_fine, twice_not}
 use Rattle.refusals.proofs.check_names.Goals as goal
 
 pub returns-then-not-index_names : goal.returns-then-not-index_names
-returns-then-not-index_names c = inl (refl, twice_not (c.index_names.ensures.no (not-true _ c.if-not-index_names.true-raw)))
+returns-then-not-index_names c = inl (refl, twice_not (c.index_names.ensures.no c.if-not-index_names.true))
 
 pub returns-then-not-none_reserved : goal.returns-then-not-none_reserved
-returns-then-not-none_reserved c = inl (refl, λ f. tells_no (not-true c.none_reserved.result c.if-not-none_reserved.true-raw) c.none_reserved.ensures (λ i l. (f i l).free))
+returns-then-not-none_reserved c = inl (refl, λ f. tells_no c.if-not-none_reserved.true c.none_reserved.ensures (λ i l. (f i l).free))
 
 pub returns-then-zero_counts : goal.returns-then-zero_counts
-returns-then-zero_counts c = inr (refl, indexed_fine (c.index_names.ensures.yes (not-false _ c.if-not-index_names.false-raw)) (tells_yes (not-false c.none_reserved.result c.if-not-none_reserved.false-raw) c.none_reserved.ensures), sym c.zero_counts.ensures ∙ c.if-zero_counts.true)
+returns-then-zero_counts c = inr (refl, indexed_fine (c.index_names.ensures.yes c.if-not-index_names.false) (tells_yes c.if-not-none_reserved.false c.none_reserved.ensures), sym c.zero_counts.ensures ∙ c.if-zero_counts.true)
 
 pub returns : goal.returns
-returns c = let h = c.index_names.ensures.yes (not-false _ c.if-not-index_names.false-raw) in (indexed_fine h (tells_yes (not-false c.none_reserved.result c.if-not-none_reserved.false-raw) c.none_reserved.ensures), sym c.zero_counts.ensures ∙ c.if-zero_counts.false, subst (AllIndexed _ _) (sym c.mark_ends.ensures) (index_ends _ _ _ h), subst (Ended _) (sym c.mark_ends.ensures) (ended _ _ h.long))
+returns c = let h = c.index_names.ensures.yes c.if-not-index_names.false in (indexed_fine h (tells_yes c.if-not-none_reserved.false c.none_reserved.ensures), sym c.zero_counts.ensures ∙ c.if-zero_counts.false, subst (AllIndexed _ _) (sym c.mark_ends.ensures) (index_ends _ _ _ h), subst (Ended _) (sym c.mark_ends.ensures) (ended _ _ h.long))

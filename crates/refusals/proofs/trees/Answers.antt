@@ -1,6 +1,5 @@
 use mathlib.Core.Path.{refl}
 use Prim.Native.Nat.{◌*◌, ◌/◌}
-use borrow.Author.Tests.{not-true, not-false}
 use native.Mathlib.Omega.{arith}
 use lib.Dec.{eqb}
 use lib.ListN.{length, take, drop}
@@ -25,12 +24,12 @@ rule_tree-requires c = (omega arith, omega arith, c.requires.2)
 
 pub returns-then-not-rule_tree : goal.returns-then-not-rule_tree
 returns-then-not-rule_tree c = let tree : let a = c.args in Tells c.rule_tree.result (IsTree (up_to a.most) (take (row_width * c.wide-n.result) (drop (c.loop-i.from * row_width) a.rows.now))) = let a = c.args in between (up_to a.most) a.rows.now c.loop-i.from c.wide-n.result c.rule_tree.result c.rule_tree.ensures in
-    let l = c.loop-i in λ t. tree_no _ _ _ l.i l.from _ (omega arith) c.wide-n.ensures (tells_no (not-true c.rule_tree.result c.if-not-rule_tree.true-raw) tree) (l.invariant.2 t)
+    let l = c.loop-i in λ t. tree_no _ _ _ l.i l.from _ (omega arith) c.wide-n.ensures (tells_no c.if-not-rule_tree.true tree) (l.invariant.2 t)
 
 pub loop-i-preserved : goal.loop-i-preserved
 loop-i-preserved c = let tree : let a = c.args in Tells c.rule_tree.result (IsTree (up_to a.most) (take (row_width * c.wide-n.result) (drop (c.loop-i.from * row_width) a.rows.now))) = let a = c.args in between (up_to a.most) a.rows.now c.loop-i.from c.wide-n.result c.rule_tree.result c.rule_tree.ensures in
     let l = c.loop-i in
-    let t = tells_yes (not-false c.rule_tree.result c.if-not-rule_tree.false-raw) tree in (
+    let t = tells_yes c.if-not-rule_tree.false tree in (
       omega arith,
       omega arith,
       λ q. next _ _ _ l.i l.from _ (omega arith) c.wide-n.ensures (l.invariant.2 q),

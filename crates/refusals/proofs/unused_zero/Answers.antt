@@ -2,7 +2,7 @@ use mathlib.Core.Path.{◌≡◌, refl, sym, ap₂}
 use mathlib.Core.Bool.{true, ◌&&◌}
 use native.Mathlib.Omega.{arith}
 use lib.Dec.{eqb}
-use borrow.Author.Tests.{lt-ltb, eq-eqb, ne_eqb, not-true, not-false}
+use borrow.Author.Tests.{lt-ltb, eq-eqb, ne_eqb}
 use Rattle.grammar.proofs.Logic.{or_right}
 use Rattle.refusals.specs.Local.{uses_x, uses_y, unused_zero}
 use Rattle.refusals.proofs.unused_zero.Goals as goal
@@ -20,8 +20,8 @@ returns-then-y-eq0 c = simp (eq-eqb _ _ c.if-y-eq0.true) c.x_fits.ensures
 
 pub returns-then-not-uses_y : goal.returns-then-not-uses_y
 unfolding unused_zero
-returns-then-not-uses_y c = simp (ne_eqb _ _ c.if-y-eq0.false, ← c.uses_y.ensures, not-true c.uses_y.result c.if-not-uses_y.true-raw)
+returns-then-not-uses_y c = simp (ne_eqb _ _ c.if-y-eq0.false, ← c.uses_y.ensures, c.if-not-uses_y.true)
 
 pub returns : goal.returns
 unfolding unused_zero
-returns c = simp (ne_eqb _ _ c.if-y-eq0.false, ← c.uses_y.ensures, not-false c.uses_y.result c.if-not-uses_y.false-raw) c.x_fits-2.ensures
+returns c = simp (ne_eqb _ _ c.if-y-eq0.false, ← c.uses_y.ensures, c.if-not-uses_y.false) c.x_fits-2.ensures

@@ -1,5 +1,4 @@
 use borrow.Author.Count.{below_none, below_more}
-use borrow.Author.Tests.{not-true, not-false}
 use native.Mathlib.Omega.{arith}
 use Rattle.rows.proofs.Cells.{tells_yes, tells_no}
 use borrow.Author.Rules.{rules}
@@ -15,10 +14,10 @@ pub same_row-requires-clause-lit_inside_2 : goal.same_row-requires-clause-lit_in
 same_row-requires-clause-lit_inside_2 c = c.requires.by_index_2 _ c.loop-k-test.true
 
 pub returns-then-not-same_row : goal.returns-then-not-same_row
-returns-then-not-same_row c = λ h. tells_no (not-true c.same_row.result c.if-not-same_row.true-raw) c.same_row.ensures (h _ c.loop-k-test.true)
+returns-then-not-same_row c = λ h. tells_no c.if-not-same_row.true c.same_row.ensures (h _ c.loop-k-test.true)
 
 pub loop-k-preserved : goal.loop-k-preserved
-loop-k-preserved c = (omega arith, below_more _ _ c.loop-k.invariant.1 (tells_yes (not-false c.same_row.result c.if-not-same_row.false-raw) c.same_row.ensures))
+loop-k-preserved c = (omega arith, below_more _ _ c.loop-k.invariant.1 (tells_yes c.if-not-same_row.false c.same_row.ensures))
 
 pub returns : goal.returns
 returns c = λ k l. c.loop-k.invariant.1 k (omega arith)
