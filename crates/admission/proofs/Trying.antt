@@ -1,4 +1,7 @@
 -- The refusals before the first step, in their order. Assumes nothing.
+use Rattle.std.specs.Prelude.{Result, Ok, Err, ⊤}
+use Rattle.grammar.specs.Numbers.{number_of}
+use Rattle.grammar.specs.declared.Refusal.{Refusal}
 use mathlib.Core.Path.{◌≡◌, refl, sym, ap, ◌∙◌, subst}
 use mathlib.Core.Bool.{Bool, true, false, ◌||◌}
 use mathlib.Core.List.{List, [], ◌∷◌}
@@ -11,7 +14,7 @@ use Rattle.grammar.specs.Basic.{Bytes, any}
 use Rattle.grammar.specs.Rows.{Span}
 use Rattle.grammar.specs.Table.{Table, Words, row_count, table_text, rule_words, row_words, resolve_table}
 use Rattle.grammar.specs.Reading.{input_kinds}
-use Rattle.grammar.specs.Refusals.{max_rows, max_text, full_rules, full_rows, zero_counts, meets, too_large}
+use Rattle.grammar.specs.Refusals.{max_rows, max_text, full_rules, full_rows, zero_counts, too_large}
 use Rattle.grammar.specs.Optimize.{stages, finish, of_words, refuse_if, refused}
 use Rattle.grammar.proofs.Logic.{or_left, or_right}
 use Rattle.grammar.proofs.Words.{table_is}
@@ -21,12 +24,8 @@ use Rattle.names.specs.Names.{NamesInside}
 use Rattle.names.proofs.Finding.{length_rows}
 use Rattle.skipper.specs.Lends.{Given, Lent}
 use Rattle.skipper.specs.Lists.{ListsAnswer, ReadAll}
-use Rattle.skipper.specs.declared.Readings.{Readings}
-use Rattle.skipper.specs.declared.Readings.TheVariants.{Read, Again}
 use Rattle.skipper.proofs.Words.{same_words}
 use Rattle.refusals.specs.Check.{lent, Passed, Checked}
-use Rattle.refusals.specs.declared.Verdict.{Verdict}
-use Rattle.refusals.specs.declared.Verdict.TheVariants.{Refused}
 use Rattle.refusals.proofs.Verdicts.{counts}
 use Rattle.refusals.proofs.Answers.{call_refused, call_passed}
 use Rattle.admission.specs.Ready.{short_of, Tried, Admitted}
@@ -95,20 +94,21 @@ module _ {rules rows : List ℕ} {text : Bytes} {marks : List ℕ} (p : Passed (
   one_table {t} l = same_words p.table t (sym passed_lent.heads ∙ l.heads) (sym passed_lent.trees ∙ l.trees)
 
   -- refusal 7
-  pub tried_again : {a : Readings} (m : List ℕ) → a ≡ Again → ((t : Table Span) → Lent rules rows t → ListsAnswer a (resolve_table text t) m) → Tried 7 (lent rules rows text) m
-  tried_again {a} m e f =
+  pub tried_again : {a : Result ⊤ Refusal} {r : Refusal} (m : List ℕ) → a ≡ Err r → ((t : Table Span) → Lent rules rows t → ListsAnswer a (resolve_table text t) m) → Tried (number_of r) (lent rules rows text) m
+  tried_again {a} {r} m e f =
       let t : Table Bytes = resolve_table text p.table in
-      let k : meets t ≡ true = subst (λ (x : Readings). ListsAnswer x t m) e (f p.table passed_lent) in
+      let k = subst (λ (x : Result ⊤ Refusal). ListsAnswer x t m) e (f p.table passed_lent) in
+      let n : number_of r ≡ 7 = ap number_of k.0 in
       record {
-        refuses = λ _. call_passed (lent rules rows text) marks p ∙ ap (λ (x : Bool). refuse_if x 7 (finish (stages t))) k;
-        ready = λ z. absurd (omega arith);
-        rest = λ z. absurd (omega arith);
+        refuses = λ _. call_passed (lent rules rows text) marks p ∙ ap (λ (x : Bool). refuse_if x 7 (finish (stages t))) k.1 ∙ ap refused (sym n);
+        ready = λ z. absurd (omega (arith, n, z));
+        rest = λ z. absurd (omega (arith, n, z));
       }
 
   -- or the lists are read
-  module _ {a : Readings} (m : List ℕ) (e : a ≡ Read) (f : (t : Table Span) → Lent rules rows t → ListsAnswer a (resolve_table text t) m) where
+  module _ {a : Result ⊤ Refusal} (m : List ℕ) (e : a ≡ Ok tt) (f : (t : Table Span) → Lent rules rows t → ListsAnswer a (resolve_table text t) m) where
     read_all : (t : Table Span) → Lent rules rows t → ReadAll (resolve_table text t) m
-    read_all t l = subst (λ (x : Readings). ListsAnswer x (resolve_table text t) m) e (f t l)
+    read_all t l = subst (λ (x : Result ⊤ Refusal). ListsAnswer x (resolve_table text t) m) e (f t l)
 
     lists_rest : (t : Table Span) → Lent rules rows t → of_words (lent rules rows text) ≡ finish (stages (resolve_table text t))
     lists_rest t l =
@@ -160,11 +160,11 @@ admitted_tried {short} {n} {w} h t =
     let e : refuse_if short 1 (of_words w) ≡ of_words w = ap (λ (x : Bool). refuse_if x 1 (of_words w)) h in
     record { refuses = λ z. e ∙ t.refuses z; ready = t.ready; rest = λ z u l. e ∙ t.rest z u l; sizes = λ _. h }
 
-pub checked_tried : {v : Verdict} {n : ℕ} {w : Words} {marks : List ℕ} → v ≡ Refused n → Checked v w marks → Tried n w marks
-checked_tried {v} {n} {w} {marks} e c =
-    let z : 2 ≤ n = c.refused n e in
+pub checked_tried : {v : Result ⊤ Refusal} {r : Refusal} {w : Words} {marks : List ℕ} → v ≡ Err r → Checked v w marks → Tried (number_of r) w marks
+checked_tried {v} {r} {w} {marks} e c =
+    let z : 2 ≤ number_of r = c.refused r e in
     record {
-      refuses = λ _. call_refused w n marks (subst (λ (x : Verdict). Checked x w marks) e c);
-      ready = λ y. absurd (omega arith);
-      rest = λ y. absurd (omega arith);
+      refuses = λ _. call_refused w r marks (subst (λ (x : Result ⊤ Refusal). Checked x w marks) e c);
+      ready = λ y. absurd (omega (arith, z, y));
+      rest = λ y. absurd (omega (arith, z, y));
     }

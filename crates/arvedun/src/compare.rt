@@ -37,7 +37,7 @@ pub extern "C" fn arvedun_compare(
 ) -> ArvedunCompared
     ensures { seen_list result list.new ≡ compare_words (lent left_rules.now left_rows.now left_text.now) (lent right_rules.now right_rows.now right_text.now) list.old left_marks.old right_marks.old }
 {
-    let r = comparer::compare(
+    match comparer::compare(
         left_rules,
         left_rows,
         left_text,
@@ -47,11 +47,17 @@ pub extern "C" fn arvedun_compare(
         list,
         left_marks,
         right_marks,
-    );
-    ArvedunCompared {
-        number: r.number,
-        side: r.side,
-        count: r.count,
+    ) {
+        Ok(count) => ArvedunCompared {
+            number: 0,
+            side: 0,
+            count,
+        },
+        Err(r) => ArvedunCompared {
+            number: u32::from(r.why),
+            side: r.side as u32,
+            count: 0,
+        },
     }
 }
 
@@ -69,7 +75,7 @@ pub extern "C" fn arvedun_shown(
 ) -> ArvedunLiteral
     ensures { seen_literal result ≡ shown (lent left_rules.now left_rows.now left_text.now) (lent right_rules.now right_rows.now right_text.now) side rule row }
 {
-    let r = comparer::place(
+    match comparer::place(
         left_rules,
         left_rows,
         left_text,
@@ -79,10 +85,16 @@ pub extern "C" fn arvedun_shown(
         side,
         rule,
         row,
-    );
-    ArvedunLiteral {
-        found: r.found,
-        offset: r.offset,
-        length: r.length,
+    ) {
+        Some(l) => ArvedunLiteral {
+            found: 1,
+            offset: l.offset,
+            length: l.length,
+        },
+        None => ArvedunLiteral {
+            found: 0,
+            offset: 0,
+            length: 0,
+        },
     }
 }

@@ -28,13 +28,22 @@ pub extern "C" fn arvedun_explain(
 ) -> ArvedunExplained
     ensures { seen_explained result list.new ≡ explain_words (lent rules.now rows.now text.now) row list.old marks.old }
 {
-    let r = explainer::explain(rules, rows, text, row, list, marks);
-    ArvedunExplained {
-        number: r.number,
-        answer: r.answer,
-        rule: r.rule,
-        at: r.at,
-        met: r.met,
-        opened: r.opened,
+    match explainer::explain(rules, rows, text, row, list, marks) {
+        Ok(a) => ArvedunExplained {
+            number: 0,
+            answer: a.answer as u32,
+            rule: a.rule,
+            at: a.at,
+            met: a.met,
+            opened: a.opened,
+        },
+        Err(r) => ArvedunExplained {
+            number: u32::from(r),
+            answer: 0,
+            rule: 0,
+            at: 0,
+            met: 0,
+            opened: 0,
+        },
     }
 }

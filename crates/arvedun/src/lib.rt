@@ -41,16 +41,26 @@ pub extern "C" fn arvedun_optimize(
 ) -> ArvedunAnswer
     ensures { seen result (lent out_rules.new out_rows.new out_text.new) ≡ optimize (lent rules.now rows.now text.now) (lent out_rules.old out_rows.old out_text.old) (lent a_rules.old a_rows.old a_text.old) (lent b_rules.old b_rows.old b_text.old) marks.old }
 {
-    let r = optimizer::optimize(
+    match optimizer::optimize(
         rules, rows, text, out_rules, out_rows, out_text, a_rules, a_rows, a_text, b_rules, b_rows,
         b_text, marks,
-    );
-    let report = r.report;
-    ArvedunAnswer {
-        number: r.number,
-        rules: r.rules,
-        rows: r.rows,
-        text: r.text,
-        report: report,
+    ) {
+        Ok(a) => {
+            let report = a.report;
+            ArvedunAnswer {
+                number: 0,
+                rules: a.rules,
+                rows: a.rows,
+                text: a.text,
+                report,
+            }
+        }
+        Err(r) => ArvedunAnswer {
+            number: u32::from(r),
+            rules: 0,
+            rows: 0,
+            text: 0,
+            report: [0; REPORT],
+        },
     }
 }

@@ -1,4 +1,5 @@
 -- A turn of closing: the trees that are still to be joined, and the rows that join the others. Assumes nothing.
+use Rattle.std.specs.Prelude.{None, Option, Some}
 use mathlib.Core.Path.{◌≡◌, refl, sym, ap, subst, ◌∙◌}
 use mathlib.Core.List.{List, [], ◌∷◌, ◌++◌, append_assoc, append-nil}
 use Prim.Native.Nat.{ℕ, ◌+◌, ◌-◌, ◌*◌, ◌/◌, ◌≤◌, ◌<◌}
@@ -13,8 +14,6 @@ use Rattle.rows.proofs.Laws.{size_pos, length_flat, Found, found_size}
 use Rattle.writing.proofs.Runs.{length_stored, stored_none, stored_then, take_stored}
 use Rattle.writing.specs.Writes.{stored}
 use Rattle.writing.specs.declared.Place.{Place}
-use Rattle.writing.specs.declared.Wrote.{Wrote}
-use Rattle.writing.specs.declared.Wrote.TheVariants.{Done, Full}
 use Rattle.chains.specs.Chains.{chain, sizes, flats, closing, Forest, Closable, Closed, ClosedAnswer, IsBin}
 use Rattle.chains.proofs.Trees.{Snoc, as_snoc, flat_chain, size_chain, length_closing, sizes_append, flats_append}
 
@@ -169,9 +168,9 @@ chain_stands {o} {b} {q} {s} {xs} {r} f room c =
     ∙ rw (f.words, flat_chain b xs r) (simp append_assoc)
 
 -- an answer that is known
-module _ {a : Wrote} (s : Place) (b : Bin) (xs : List (Expr Span)) (r : Expr Span) (o o' : List ℕ) where
-  pub closed_done : {q : Place} → a ≡ Done q → ClosedAnswer a s b xs r o o' → Closed q s b xs r o o'
-  closed_done d w = subst (λ (z : Wrote). ClosedAnswer z s b xs r o o') d w
+module _ {a : Option Place} (s : Place) (b : Bin) (xs : List (Expr Span)) (r : Expr Span) (o o' : List ℕ) where
+  pub closed_done : {q : Place} → a ≡ Some q → ClosedAnswer a s b xs r o o' → Closed q s b xs r o o'
+  closed_done d w = subst (λ (z : Option Place). ClosedAnswer z s b xs r o o') d w
 
-  pub closed_full : a ≡ Full → ClosedAnswer a s b xs r o o' → ⊥
-  closed_full d w = subst (λ (z : Wrote). ClosedAnswer z s b xs r o o') d w
+  pub closed_full : a ≡ None → ClosedAnswer a s b xs r o o' → ⊥
+  closed_full d w = subst (λ (z : Option Place). ClosedAnswer z s b xs r o o') d w

@@ -3,3 +3,4 @@ pub mod Trees
 pub mod Closes
 pub mod Runs
 pub mod Walks
+pub mod Nodes

@@ -1,4 +1,5 @@
 -- A run of nodes with one child: the tree below it, its rows, and how it is written over another tree. Assumes nothing.
+use Rattle.std.specs.Prelude.{Some}
 use mathlib.Core.Path.{◌≡◌, refl, sym, ap, subst, ◌∙◌}
 use mathlib.Core.List.{List, [], ◌∷◌}
 use mathlib.Core.Logic.{⊎_elim}
@@ -20,7 +21,6 @@ use Rattle.rows.proofs.Laws.{Found, root, at_un}
 use Rattle.rows.proofs.Cells.{size_resolve}
 use Rattle.rows.proofs.Views.{shape_in, found_shape, found_head, as_one, at_unique}
 use Rattle.writing.specs.declared.Place.{Place}
-use Rattle.writing.specs.declared.Wrote.TheVariants.{Done}
 use Rattle.writing.specs.Writes.{stored, Fits}
 use Rattle.writing.specs.Keeps.{Kept}
 use Rattle.writing.proofs.Puts.{row_set}
@@ -190,7 +190,7 @@ module _ {w o₀ : List ℕ} {base root first : ℕ} {q : Place} {o : List ℕ} 
 
   -- at the top of the run
   pub up_all : i ≡ root → {p₀ : Place} (z : Raisable w base root p₀ q o₀) (r : Expr Span) → At w root r → (a p : Place) → p.rows ≡ first → a.rows ≡ at → a.text ≡ q.text
-      → RaisedAnswer (Done a) q p (ups r) o₀ o
+      → RaisedAnswer (Some a) q p (ups r) o₀ o
   up_all h z r b a p d e x f o₁ t t₁ c =
       let n : root - i ≡ 0 = omega arith in
       rw n at (u.kept r b (rw (at_unique r z.tree b z.at) z.run) p a d e x f o₁ t t₁ c)

@@ -1,4 +1,5 @@
 -- A walk over a subtree by a step that cannot grow: what falls, what is left as it was, and a run over its result. Assumes nothing.
+use Rattle.std.specs.Prelude.{Option}
 use mathlib.Core.Path.{◌≡◌, refl, sym, ap, subst, ◌∙◌}
 use mathlib.Core.List.{List}
 use Prim.Native.Nat.{ℕ, ◌+◌, ◌-◌, ◌/◌, ◌^◌, ◌≤◌, ◌<◌}
@@ -16,7 +17,6 @@ use Rattle.rows.proofs.Laws.{root}
 use Rattle.rows.proofs.Cells.{size_resolve}
 use Rattle.rows.proofs.Views.{TwoView, shape_in, as_pair, pair_left, not_pair}
 use Rattle.writing.specs.declared.Place.{Place}
-use Rattle.writing.specs.declared.Wrote.{Wrote}
 use Rattle.writing.specs.Writes.{Areas, Fits}
 use Rattle.writing.specs.Keeps.{Kept, KeptAnswer, Ready}
 use Rattle.writing.proofs.Trees.{fits_left}
@@ -58,7 +58,7 @@ pub same_areas : {o o₁ b b₁ : List ℕ} → Areas o b → length o₁ ≡ le
 same_areas a e d = record { words = omega (arith, a.words); bytes = omega (arith, a.bytes) }
 
 -- an answer for an equal tree
-pub kept_same : (a : Wrote) (p : Place) {e f : E} (o o' b b' : List ℕ) → e ≡ f → KeptAnswer a p e o o' b b' → KeptAnswer a p f o o' b b'
+pub kept_same : (a : Option Place) (p : Place) {e f : E} (o o' b b' : List ℕ) → e ≡ f → KeptAnswer a p e o o' b b' → KeptAnswer a p f o o' b b'
 kept_same a p o o' b b' h w = subst (λ (z : E). KeptAnswer a p z o o' b b') h w
 
 -- ---- leaves are left as they were
@@ -89,7 +89,7 @@ module _ (f : E → E) (f-un : (u : Un) (e : E) → f (un u e) ≡ un u (f e)) (
       leaf (bin c l r) a b = absurd (b refl)
 
   -- so a copy is what is asked for
-  pub leaf_kept : ((r : Expr Span) → Leaf (shape_in r) → f (resolve t r) ≡ resolve t r) → (r : Expr Span) → (shape_in (low r) ≡ Two → ⊥) → (a : Wrote) (p : Place) (o o' b b' : List ℕ)
+  pub leaf_kept : ((r : Expr Span) → Leaf (shape_in r) → f (resolve t r) ≡ resolve t r) → (r : Expr Span) → (shape_in (low r) ≡ Two → ⊥) → (a : Option Place) (p : Place) (o o' b b' : List ℕ)
       → KeptAnswer a p (resolve t r) o o' b b' → KeptAnswer a p (f (resolve t r)) o o' b b'
   leaf_kept g r h a p o o' b b' c = kept_same a p o o' b b' (sym (leaf_run g r h)) c
 
@@ -105,5 +105,5 @@ module _ (f : E → E) (f-un : (u : Un) (e : E) → f (un u e) ≡ un u (f e)) (
       words = omega arith;
     }
 
-    pub run_kept : (a : Wrote) (o₂ : List ℕ) → RaisedAnswer a q p (ups r) o₁ o₂ → KeptAnswer a p (f (resolve t r)) o o₂ b b₁
+    pub run_kept : (a : Option Place) (o₂ : List ℕ) → RaisedAnswer a q p (ups r) o₁ o₂ → KeptAnswer a p (f (resolve t r)) o o₂ b b₁
     run_kept a o₂ g = kept_same a p o o₂ b b₁ (sym (step_run f f-un t r)) (g (f (resolve t (low r))) o b b₁ c)

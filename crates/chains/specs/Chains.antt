@@ -1,5 +1,5 @@
 -- Trees one after the other, and the right-nested chain that they make. Assumes nothing.
-use Rattle.std.specs.Prelude.{◌≡◌, List, [], ◌∷◌, ◌++◌, ℕ, ◌+◌, ◌*◌, ◌/◌, ◌^◌, ◌≤◌, ◌<◌, length, take}
+use Rattle.std.specs.Prelude.{◌≡◌, List, [], ◌∷◌, ◌++◌, ℕ, ◌+◌, ◌*◌, ◌/◌, ◌^◌, ◌≤◌, ◌<◌, length, take, None, Option, Some}
 use Rattle.grammar.specs.Numbers.{row_width}
 use Rattle.grammar.specs.Basic.{Bytes}
 use Rattle.grammar.specs.Tree.{Bin, bin_kind, Expr, E, bin, size}
@@ -7,8 +7,6 @@ use Rattle.grammar.specs.Rows.{Span, row, flat}
 use Rattle.grammar.specs.Text.{text_of, packed}
 use Rattle.writing.specs.Writes.{stored}
 use Rattle.writing.specs.declared.Place.{Place}
-use Rattle.writing.specs.declared.Wrote.{Wrote}
-use Rattle.writing.specs.declared.Wrote.TheVariants.{Done, Full}
 
 -- the trees xs and then r, nested to the right under nodes b
 abbrev pub chain : {L : Type 0} → Bin → List (Expr L) → Expr L → Expr L
@@ -59,9 +57,9 @@ pub record Closed (q s : Place) (b : Bin) (xs : List (Expr Span)) (r : Expr Span
   pub words : o' ≡ stored o (s.rows * row_width) (closing b xs r)
 
 -- never full: there is room
-abbrev pub ClosedAnswer : Wrote → Place → Bin → List (Expr Span) → Expr Span → List ℕ → List ℕ → Type 0
-ClosedAnswer (Done q) s b xs r o o' = Closed q s b xs r o o'
-ClosedAnswer Full s b xs r o o' = ⊥
+abbrev pub ClosedAnswer : Option Place → Place → Bin → List (Expr Span) → Expr Span → List ℕ → List ℕ → Type 0
+ClosedAnswer (Some q) s b xs r o o' = Closed q s b xs r o o'
+ClosedAnswer None s b xs r o o' = ⊥
 
 -- a kind word of a node of two children
 pub record IsBin (k : ℕ) : Type 0 where

@@ -1,11 +1,10 @@
 -- A run of nodes with one child each, one over the other, and the tree at its bottom. Assumes nothing.
-use Rattle.std.specs.Prelude.{◌≡◌, List, [], ◌∷◌, ℕ, ◌+◌, ◌/◌, ◌^◌, ◌≤◌, ◌<◌, length}
+use Rattle.std.specs.Prelude.{◌≡◌, List, [], ◌∷◌, ℕ, ◌+◌, ◌/◌, ◌^◌, ◌≤◌, ◌<◌, length, Option}
 use Rattle.grammar.specs.Numbers.{row_width}
 use Rattle.grammar.specs.Tree.{Un, Expr, E, lit, fixed, skip, un, bin}
 use Rattle.grammar.specs.Rows.{Span}
 use Rattle.rows.specs.Rows.{At}
 use Rattle.writing.specs.declared.Place.{Place}
-use Rattle.writing.specs.declared.Wrote.{Wrote}
 use Rattle.writing.specs.Keeps.{Kept, KeptAnswer}
 
 -- the nodes us over the tree e, the outermost first
@@ -38,5 +37,5 @@ pub record Raisable (w : List ℕ) (base root : ℕ) (p q : Place) (o : List ℕ
   pub words : length o < 2 ^ 32
 
 -- whatever tree stands from p to q, the nodes us stand over it; never full
-abbrev pub RaisedAnswer : Wrote → (q p : Place) → List Un → (o₁ o₂ : List ℕ) → Type 0
+abbrev pub RaisedAnswer : Option Place → (q p : Place) → List Un → (o₁ o₂ : List ℕ) → Type 0
 RaisedAnswer a q p us o₁ o₂ = (e : E) (o t t₁ : List ℕ) → Kept q p e o o₁ t t₁ → KeptAnswer a p (wrap us e) o o₂ t t₁

@@ -7,74 +7,40 @@ ghost use Rattle.grammar.specs.Tree.{Bin, bin_kind, Expr};
 ghost use Rattle.grammar.specs.Rows.{Span};
 ghost use Rattle.rows.specs.Rows.{kind_at, At, Stands, Tells, shape_of};
 ghost use Rattle.rows.specs.declared.Shape.TheVariants.{One};
-ghost use Rattle.writing.specs.declared.Wrote.TheVariants.{Done, Full};
 ghost use Rattle.chains.specs.Chains.{Forest, Closable, ClosedAnswer, IsBin};
 ghost use Rattle.chains.specs.Runs.{ups, Raisable, RaisedAnswer};
 
 use grammar::{PAIR, ROW_WIDTH};
-use rows::{Lookup, Shape};
-use writing::{Place, Wrote};
+use rows::Shape;
+use writing::Place;
 
 // Joins the last n + 1 trees before s into a right-nested chain, from the last one back: appends its n closing rows.
-pub fn close(out: &mut [u32], s: Place, kind: u32, n: usize) -> Wrote
+pub fn close(out: &mut [u32], s: Place, kind: u32, n: usize) -> Option<Place>
     requires bin { IsBin kind }
     requires closable { Closable out.old s.rows n }
     ensures { (b : Bin) (before : List ℕ) (xs : List (Expr Span)) (r : Expr Span) → kind ≡ bin_kind b → Forest out.old s.rows before xs r → length xs ≡ n → ClosedAnswer result s b xs r out.old out.new }
 {
-    let mut at = s.rows;
-    let last = at - 1;
-    let Lookup::Row {
-        kind: _,
-        x: _,
-        y: _,
-        size: m,
-    } = rows::row_at(out, last)
-    else {
-        return Wrote::Full;
-    };
+    let start = s.rows;
+    let last = rows::row_at(out, start - 1)?;
     // where the trees that are joined begin
-    let mut first = at - m as usize;
-    let end = at + n;
-    while at < end {
-        let left = first - 1;
-        let Lookup::Row {
-            kind: _,
-            x: _,
-            y: _,
-            size: k,
-        } = rows::row_at(out, left)
-        else {
-            return Wrote::Full;
-        };
-        first -= k as usize;
+    let mut first = start - last.size as usize;
+    let end = start + n;
+    for at in start..end {
+        let left = rows::row_at(out, first - 1)?;
+        first -= left.size as usize;
         writing::set_row(out, at, kind, 0, 0, (at + 1 - first) as u32);
-        at += 1;
     }
-    Wrote::Done(Place {
-        rows: at,
+    Some(Place {
+        rows: end,
         text: s.text,
     })
-}
-
-// Where a step that cannot grow ended: it is never full.
-pub fn ended(a: Wrote) -> Place
-    requires { a ≡ Full → ⊥ }
-    ensures { a ≡ Done result }
-{
-    match a {
-        Wrote::Done(q) => q,
-        Wrote::Full => Place { rows: 0, text: 0 },
-    }
 }
 
 // Whether a row of this kind has one child.
 fn one_below(kind: u32) -> bool
     ensures { Tells result (shape_of kind ≡ One) }
 {
-    if let Shape::One = rows::shape_of(kind) {
-        return true;
-    }
-    false
+    matches!(rows::shape_of(kind), Shape::One)
 }
 
 // The row below the run of rows with one child each that ends at `root`: `root` itself where its row has none or two.
@@ -98,28 +64,25 @@ pub fn forks(rows: &[u32], i: usize) -> bool
 }
 
 // Writes the rows after `base` up to `root` over the tree that stands from p to q, with its sizes.
-pub fn raise(rows: &[u32], base: usize, root: usize, out: &mut [u32], p: Place, q: Place) -> Wrote
+pub fn raise(
+    rows: &[u32],
+    base: usize,
+    root: usize,
+    out: &mut [u32],
+    p: Place,
+    q: Place,
+) -> Option<Place>
     requires { Raisable rows.now base root p q out.old }
     ensures { (r : Expr Span) → At rows.now root r → RaisedAnswer result q p (ups r) out.old out.new }
 {
     let first = p.rows;
     let mut at = q.rows;
-    let mut i = base;
-    while i < root {
-        i += 1;
-        let Lookup::Row {
-            kind,
-            x,
-            y,
-            size: _,
-        } = rows::row_at(rows, i)
-        else {
-            return Wrote::Full;
-        };
-        writing::set_row(out, at, kind, x, y, (at + 1 - first) as u32);
+    for i in base..root {
+        let row = rows::row_at(rows, i + 1)?;
+        writing::set_row(out, at, row.kind, row.x, row.y, (at + 1 - first) as u32);
         at += 1;
     }
-    Wrote::Done(Place {
+    Some(Place {
         rows: at,
         text: q.text,
     })

@@ -2,12 +2,12 @@
 use mathlib.Core.Path.{◌≡◌, sym, ◌∙◌, subst₂}
 use mathlib.Core.List.{List, []}
 use mathlib.Core.Option.{none, some}
-use Prim.Native.Nat.{ℕ, ◌+◌, ◌-◌, ◌*◌, ◌≤◌, ◌<◌}
+use Prim.Native.Nat.{ℕ, ◌+◌, ◌-◌, ◌≤◌, ◌<◌}
+use native.Mathlib.Decide.{dec_lt}
 use native.Mathlib.Omega.{arith}
 use lib.ListN.{length, get_or}
 use lib.Seq.{ext_get_or}
 use Rattle.grammar.specs.Basic.{Bytes}
-use Rattle.grammar.specs.Numbers.{row_width}
 use Rattle.grammar.specs.Tree.{Expr, size}
 use Rattle.grammar.specs.Rows.{Span}
 use Rattle.grammar.specs.Text.{resolve}
@@ -59,7 +59,14 @@ module _ (t u : Bytes) {w v : List ℕ} {i j : ℕ} {r s : Expr Span} (a : At w 
         ends = λ p q. f (omega (arith, rows₁, rows₂, long_left, long_right, p, q));
       })
 
+  -- so they differ at row k, unless both are over there
+  pub differ_there : (least < n → least < m → ⊥) → (k ≡ least → n ≡ m → ⊥) → first_unlike (cells (resolve t r)) (cells (resolve u s)) ≡ some k
+  differ_there q f = go (dec_lt k least)
+    where
+      go : Dec (k < least) → first_unlike (cells (resolve t r)) (cells (resolve u s)) ≡ some k
+      go (yes l) = differ_row l
+      go (no l) = let e : k ≡ least = omega (arith, l, run.most) in rw e (differ_prefix (omega (arith, l)) q (f e))
+
 -- a size that was read
-pub size_read : {w : List ℕ} {i n : ℕ} {r : Expr Span} → At w i r → n ≡ get_or w (i * row_width + 3) 0 → n ≡ size r
-unfolding size_at
+pub size_read : {w : List ℕ} {i n : ℕ} {r : Expr Span} → At w i r → n ≡ size_at w i → n ≡ size r
 size_read a e = e ∙ (root a).rows

@@ -1,19 +1,16 @@
 -- Rules of two tables paired by their names, one left rule after the other. Assumes nothing.
+use Rattle.std.specs.Prelude.{None, Option, Some}
 use mathlib.Core.Path.{◌≡◌, refl, sym, ap, ◌∙◌, subst}
 use mathlib.Core.List.{List}
 use Prim.Native.Nat.{ℕ, suc, ◌+◌, ◌*◌, ◌/◌, ◌≤◌, ◌<◌}
 use native.Mathlib.Decide.{ℕ_discrete, dec_lt}
 use native.Mathlib.Numerals.{add-one}
 use native.Mathlib.Omega.{arith}
-use lib.ListN.{length, get_or, length-set}
+use lib.ListN.{length, length-set}
 use lib.Seq.{get_or-set_same, get_or-set_other}
 use Rattle.grammar.specs.Basic.{Bytes}
-use Rattle.grammar.specs.Numbers.{rule_width, length_word, mark_width}
-use Rattle.grammar.specs.Rows.{Span}
-use Rattle.grammar.specs.Text.{bytes_at}
+use Rattle.grammar.specs.Numbers.{rule_width, mark_width}
 use Rattle.names.specs.Names.{memory_word, ways_word, end_word, name_of, marked, AllIndexed, Finds, Ended}
-use Rattle.names.specs.declared.Found.{Found}
-use Rattle.names.specs.declared.Found.TheVariants.{At, Nothing}
 use Rattle.names.proofs.Index.{names_apart, index_kept}
 use Rattle.names.proofs.Marks.{length_marked, marked_other, marked_at}
 use Rattle.comparer.specs.Pairs.{memory_at, with_memory, partner, memory_of, met_by, Met, Paired, PairedOne, Kept}
@@ -42,14 +39,15 @@ kept_memory m k v =
     }
 
 -- all of them are cleared
-pub kept_forgotten : (m : List ℕ) (n : ℕ) → Kept m (marked (λ _. 0) memory_word n m)
-kept_forgotten m n =
-    record {
+pub kept_forgotten : (m : List ℕ) (n : ℕ) {m' : List ℕ} → m' ≡ marked (λ _. 0) memory_word n m → Kept m m'
+kept_forgotten m n e =
+    subst (Kept m) (sym e)
+    (record {
       long = length_marked (λ _. 0) memory_word n m;
       slots = λ i. marked_other (λ _. 0) memory_word n m (i * mark_width) (λ k l e. omega arith);
       ways = λ i. marked_other (λ _. 0) memory_word n m (i * mark_width + ways_word) (λ k l e. omega arith);
       ends = λ i. marked_other (λ _. 0) memory_word n m (i * mark_width + end_word) (λ k l e. omega arith);
-    }
+    })
 
 pub kept_index : {rules : List ℕ} {text : Bytes} {m m' : List ℕ} → Kept m m' → AllIndexed rules text m → AllIndexed rules text m'
 kept_index k h = index_kept h k.long k.slots k.ways
@@ -59,27 +57,22 @@ kept_ended k h = record { end = λ i l. k.ends i ∙ h.end i l }
 
 -- ---- the rules
 
--- a search for the name of rule i
-pub found_named : (rules₁ : List ℕ) (text₁ : Bytes) (rules₂ : List ℕ) (text₂ : Bytes) (i : ℕ) {x n : ℕ} {f g : Found} → x ≡ get_or rules₁ (i * rule_width) 0 → n ≡ get_or rules₁ (i * rule_width + length_word) 0 → f ≡ g → Finds (length rules₂ / rule_width) rules₂ text₂ (bytes_at text₁ (x, n)) f → Finds (length rules₂ / rule_width) rules₂ text₂ (name_of rules₁ text₁ i) g
-found_named rules₁ text₁ rules₂ text₂ i {x} {n} {f} {g} a b e h =
-    subst (Finds (length rules₂ / rule_width) rules₂ text₂ (name_of rules₁ text₁ i)) e
-    (subst (λ (s : Span). Finds (length rules₂ / rule_width) rules₂ text₂ (bytes_at text₁ s) f) (λ z. (a z, b z)) h)
-
-found_place : (f : Found) {k : ℕ} → memory_of f ≡ k → partner k ≡ f
-found_place Nothing {k} e = subst (λ (x : ℕ). partner x ≡ Nothing) e refl
-found_place (At j) {k} e = subst (λ (x : ℕ). partner x ≡ At j) e (subst (λ (x : ℕ). partner x ≡ At j) (add_one' j) refl)
+found_place : (f : Option ℕ) {k : ℕ} → memory_of f ≡ k → partner k ≡ f
+found_place None {k} e = subst (λ (x : ℕ). partner x ≡ None) e refl
+found_place (Some j) {k} e = subst (λ (x : ℕ). partner x ≡ Some j) e (subst (λ (x : ℕ). partner x ≡ Some j) (add_one' j) refl)
   where
     add_one' : (n : ℕ) → suc n ≡ n + 1
     add_one' n = sym (add-one n)
 
 module _ {rules₁ : List ℕ} {text₁ : Bytes} {rules₂ : List ℕ} {text₂ : Bytes} where
-  pub paired_none : (m₁ m₂ : List ℕ) → length rules₂ / rule_width * mark_width ≤ length m₂ → Paired 0 rules₁ text₁ rules₂ text₂ m₁ (marked (λ _. 0) memory_word (length rules₂ / rule_width) m₂)
-  paired_none m₁ m₂ l =
-      record {
+  pub paired_none : (m₁ m₂ : List ℕ) {m : List ℕ} → m ≡ marked (λ _. 0) memory_word (length rules₂ / rule_width) m₂ → length rules₂ / rule_width * mark_width ≤ length m₂ → Paired 0 rules₁ text₁ rules₂ text₂ m₁ m
+  paired_none m₁ m₂ e l =
+      subst (Paired 0 rules₁ text₁ rules₂ text₂ m₁) (sym e)
+      (record {
         left = λ i b. absurd (omega arith);
         met = λ j b z. absurd (z (marked_at (λ _. 0) memory_word (length rules₂ / rule_width) m₂ j (omega arith) l b));
         unmet = λ j b e w. omega (arith, w.below);
-      }
+      })
 
   module _ {m₁ m₁' m₂ m₂' : List ℕ} {i : ℕ} (one : PairedOne i rules₁ text₁ rules₂ text₂ m₁ m₁' m₂ m₂') where
     pub one_left : Kept m₁ m₁'
@@ -88,9 +81,9 @@ module _ {rules₁ : List ℕ} {text₁ : Bytes} {rules₂ : List ℕ} {text₂ 
     pub one_right : Kept m₂ m₂'
     one_right = subst (Kept m₂) (sym one.right) (go one.found)
       where
-        go : (f : Found) → Kept m₂ (met_by f m₂)
-        go Nothing = kept_self m₂
-        go (At j) = kept_memory m₂ j 1
+        go : (f : Option ℕ) → Kept m₂ (met_by f m₂)
+        go None = kept_self m₂
+        go (Some j) = kept_memory m₂ j 1
 
     module _ (index : AllIndexed rules₂ text₂ m₂) (there : i * mark_width + memory_word < length m₁) (p : Paired i rules₁ text₁ rules₂ text₂ m₁ m₂) where
       more : {name : Bytes} → Met i rules₁ text₁ name → Met (i + 1) rules₁ text₁ name
@@ -102,7 +95,7 @@ module _ {rules₁ : List ℕ} {text₁ : Bytes} {rules₂ : List ℕ} {text₂ 
           go : Dec (k ≡ i) → Finds (length rules₂ / rule_width) rules₂ text₂ (name_of rules₁ text₁ k) (partner (memory_at m₁' k))
           go (yes e) =
               let z : memory_at m₁' k ≡ memory_of one.found = ap (λ (m : List ℕ). memory_at m k) one.left ∙ ap (memory_at (with_memory m₁ i (memory_of one.found))) e ∙ memory_same m₁ i (memory_of one.found) there in
-              subst (λ (f : Found). Finds (length rules₂ / rule_width) rules₂ text₂ (name_of rules₁ text₁ k) f) (sym (found_place one.found (sym z))) (subst (λ (x : ℕ). Finds (length rules₂ / rule_width) rules₂ text₂ (name_of rules₁ text₁ x) one.found) (sym e) one.finds)
+              subst (λ (f : Option ℕ). Finds (length rules₂ / rule_width) rules₂ text₂ (name_of rules₁ text₁ k) f) (sym (found_place one.found (sym z))) (subst (λ (x : ℕ). Finds (length rules₂ / rule_width) rules₂ text₂ (name_of rules₁ text₁ x) one.found) (sym e) one.finds)
           go (no d) =
               let z : memory_at m₁ k ≡ memory_at m₁' k = sym (ap (λ (m : List ℕ). memory_at m k) one.left ∙ memory_other m₁ i k (memory_of one.found) d) in
               subst (λ (x : ℕ). Finds (length rules₂ / rule_width) rules₂ text₂ (name_of rules₁ text₁ k) (partner x)) z (p.left k (omega (arith, b, apart d)))
@@ -113,8 +106,8 @@ module _ {rules₁ : List ℕ} {text₁ : Bytes} {rules₂ : List ℕ} {text₂ 
       pub paired_next : Paired (i + 1) rules₁ text₁ rules₂ text₂ m₁' m₂'
       paired_next = subst (Paired (i + 1) rules₁ text₁ rules₂ text₂ m₁') (sym one.right) (go one.found one.finds)
         where
-          go : (f : Found) → Finds (length rules₂ / rule_width) rules₂ text₂ (name_of rules₁ text₁ i) f → Paired (i + 1) rules₁ text₁ rules₂ text₂ m₁' (met_by f m₂)
-          go Nothing h =
+          go : (f : Option ℕ) → Finds (length rules₂ / rule_width) rules₂ text₂ (name_of rules₁ text₁ i) f → Paired (i + 1) rules₁ text₁ rules₂ text₂ m₁' (met_by f m₂)
+          go None h =
               record {
                 left = next_left;
                 met = λ j b z. more (p.met j b z);
@@ -124,7 +117,7 @@ module _ {rules₁ : List ℕ} {text₁ : Bytes} {rules₂ : List ℕ} {text₂ 
               at : (j : ℕ) → j < length rules₂ / rule_width → memory_at m₂ j ≡ 0 → (w : Met (i + 1) rules₁ text₁ (name_of rules₂ text₂ j)) → Dec (w.rule ≡ i) → ⊥
               at j b e w (yes q) = h j b (sym w.same ∙ ap (name_of rules₁ text₁) q)
               at j b e w (no q) = p.unmet j b e (record { rule = w.rule; below = omega (arith, w.below, q); same = w.same })
-          go (At j₀) h =
+          go (Some j₀) h =
               record {
                 left = next_left;
                 met = λ j b z. hit j b z (ℕ_discrete j j₀);

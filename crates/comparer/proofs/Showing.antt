@@ -1,11 +1,12 @@
 -- The literal of a row, test by test. Assumes nothing.
+use Rattle.std.specs.Prelude.{None}
 use mathlib.Core.Path.{◌≡◌, refl, sym, ap, ◌∙◌}
 use mathlib.Core.Bool.{Bool, true, false, ◌&&◌, cond}
 use mathlib.Core.List.{List}
 use Prim.Native.Nat.{ℕ, ◌+◌, ◌*◌, ◌/◌, ◌≤◌, ◌<◌}
 use native.Mathlib.Decide.{dec_le}
 use native.Mathlib.Omega.{arith}
-use borrow.Author.Tests.{ltb-true, ltb-false, lt-ltb, le-ltb, le-leb, lt-leb, eq-eqb, ne_eqb}
+use borrow.Author.Tests.{ltb-true, ltb-false, lt-ltb, le-ltb, le-leb, lt-leb}
 use lib.Dec.{eqb, ltb, leb}
 use lib.ListN.{length, get_or}
 use Rattle.grammar.specs.Basic.{Bytes}
@@ -13,11 +14,10 @@ use Rattle.grammar.specs.Numbers.{rule_width, rows_word, row_width}
 use Rattle.grammar.specs.Text.{bytes_at}
 use Rattle.grammar.specs.Table.{Words}
 use Rattle.rows.specs.Rows.{row_at}
-use Rattle.rows.specs.declared.Lookup.TheVariants.{Refused}
 use Rattle.rows.proofs.Laws.{Found, row_there}
 use Rattle.names.specs.Names.{rows_before}
 use Rattle.comparison.specs.Shown.{Shown, nothing, is_lit, lit_at, shown_in, shown, bytes_of}
-use Rattle.comparison.proofs.Inside.{in_inside}
+use Rattle.comparison.proofs.Inside.{shown_inside}
 use Rattle.comparer.specs.Shows.{Begins}
 
 -- ---- a row
@@ -26,7 +26,7 @@ pub lit_past : (w : List ℕ) (t : Bytes) (i : ℕ) → length w / row_width ≤
 unfolding lit_at
 lit_past w t i h = rw (le-ltb i (length w / row_width) h)
 
-pub lit_none : (w : List ℕ) (t : Bytes) (i : ℕ) → row_at w i ≡ Refused → lit_at w t i ≡ nothing
+pub lit_none : (w : List ℕ) (t : Bytes) (i : ℕ) → row_at w i ≡ None → lit_at w t i ≡ nothing
 lit_none w t i h = go (ltb i (length w / row_width)) refl
   where
     go : (b : Bool) → ltb i (length w / row_width) ≡ b → lit_at w t i ≡ nothing
@@ -55,14 +55,6 @@ module _ {w : List ℕ} (t : Bytes) {i k x y n : ℕ} (f : Found w i k x y n) wh
 -- ---- a row of a rule
 
 module _ (w : Words) (rule row : ℕ) where
-  pub no_rule : length w.rules / rule_width ≤ rule → shown_in w rule row ≡ nothing
-  unfolding shown_in
-  no_rule h = rw (le-ltb rule (length w.rules / rule_width) h)
-
-  pub no_row : rule < length w.rules / rule_width → get_or w.rules (rule * rule_width + rows_word) 0 ≤ row → shown_in w rule row ≡ nothing
-  unfolding shown_in
-  no_row h k = rw (lt-ltb rule (length w.rules / rule_width) h, le-ltb row (get_or w.rules (rule * rule_width + rows_word) 0) k)
-
   pub row_of : {r : ℕ} → rule < length w.rules / rule_width → row < get_or w.rules (rule * rule_width + rows_word) 0 → Begins w.rules rule (length w.rows / row_width) r → lit_at w.rows w.text (r + row) ≡ shown_in w rule row
   unfolding shown_in
   row_of {r} h k b =
@@ -72,34 +64,14 @@ module _ (w : Words) (rule row : ℕ) where
       go (yes l) = ap (λ (n : ℕ). lit_at w.rows w.text (n + row)) (b.there l)
       go (no l) = lit_past w.rows w.text (r + row) (omega (arith, b.past (omega (arith, l)))) ∙ sym (lit_past w.rows w.text (rows_before w.rules rule + row) (omega (arith, l)))
 
--- what is shown lies in the text
-pub part_inside : (w : Words) (rule row : ℕ) {s : Shown} {x n : ℕ} → s ≡ shown_in w rule row → x ≡ s.offset → n ≡ s.length' → x + n ≤ length w.text
-part_inside w rule row e a b = omega (arith, a, b, ap (λ (z : Shown). z.offset) e, ap (λ (z : Shown). z.length') e, in_inside w rule row)
-
 -- ---- the side
 
 module _ (left right : Words) (side rule row : ℕ) where
-  pub left_shown : side ≡ 0 → shown left right side rule row ≡ shown_in left rule row
-  unfolding shown
-  left_shown h = rw (eq-eqb side 0 h)
+  -- what is shown is a part of that side's text
+  module _ {text : Bytes} {s : Shown} (t : text ≡ cond (eqb side 0) left.text right.text) (e : s ≡ shown left right side rule row) where
+    pub part_inside : s.offset + s.length' ≤ length text
+    part_inside = rw (t, e) (shown_inside left right side rule row)
 
-  pub right_shown : side ≡ 1 → shown left right side rule row ≡ shown_in right rule row
-  unfolding shown
-  right_shown h = rw (ne_eqb side 0 (λ e. omega (arith, e, h)), eq-eqb side 1 h)
-
-  pub none_shown : (side ≡ 0 → ⊥) → (side ≡ 1 → ⊥) → shown left right side rule row ≡ nothing
-  unfolding shown
-  none_shown h k = rw (ne_eqb side 0 h, ne_eqb side 1 k)
-
-  part_of : {x n : ℕ} (text : Bytes) (s : Shown) → shown left right side rule row ≡ s → x ≡ s.offset → n ≡ s.length' → cond (eqb side 0) left.text right.text ≡ text → bytes_at text (x, n) ≡ bytes_of left right side rule row
-  unfolding bytes_of
-  part_of text s e a b f = rw (a, b, ← e, ← f)
-
-  pub left_bytes : {s : Shown} {x n : ℕ} → side ≡ 0 → s ≡ shown_in left rule row → x ≡ s.offset → n ≡ s.length' → bytes_at left.text (x, n) ≡ bytes_of left right side rule row
-  left_bytes {s} h e a b = part_of left.text s (left_shown h ∙ sym e) a b (rw (eq-eqb side 0 h))
-
-  pub right_bytes : {s : Shown} {x n : ℕ} → (side ≡ 0 → ⊥) → side ≡ 1 → s ≡ shown_in right rule row → x ≡ s.offset → n ≡ s.length' → bytes_at right.text (x, n) ≡ bytes_of left right side rule row
-  right_bytes {s} k h e a b = part_of right.text s (right_shown h ∙ sym e) a b (rw (ne_eqb side 0 k))
-
-  pub no_bytes : (side ≡ 0 → ⊥) → (side ≡ 1 → ⊥) → bytes_at left.text (0, 0) ≡ bytes_of left right side rule row
-  no_bytes k h = part_of right.text nothing (none_shown k h) refl refl (rw (ne_eqb side 0 k))
+    pub part_bytes : bytes_at text (s.offset, s.length') ≡ bytes_of left right side rule row
+    unfolding bytes_of
+    part_bytes = rw (t, e) refl

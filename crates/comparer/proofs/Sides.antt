@@ -1,16 +1,18 @@
 -- A table that passed refusals 2 to 6, as the lists ask for it; and the whole answer. Assumes nothing.
+use Rattle.std.specs.Prelude.{Ok, Err}
 use mathlib.Core.Path.{◌≡◌, sym, ap, ◌∙◌, subst}
-use mathlib.Core.Bool.{Bool, true, false, ◌||◌}
+use mathlib.Core.Bool.{true, false, ◌||◌}
 use mathlib.Core.List.{List, ◌++◌}
 use Prim.Native.Nat.{ℕ, suc, ◌+◌, ◌-◌, ◌*◌, ◌/◌, ◌≤◌, ◌<◌}
 use native.Mathlib.Omega.{arith}
-use borrow.Author.Tests.{ne_eqb}
+use borrow.Author.Tests.{ne_eqb, ltb-false}
 use lib.Dec.{ltb}
 use lib.ListN.{length, get_or, drop, length-append}
 use lib.Seq.{sets-eq}
 use native.Mathlib.Nat.{zero-add}
+use Rattle.grammar.specs.declared.Refusal.TheVariants.{Area}
 use Rattle.grammar.specs.Basic.{Bytes}
-use Rattle.grammar.specs.Numbers.{rule_width, type_word, rows_word, mark_width}
+use Rattle.grammar.specs.Numbers.{number_of, rule_width, type_word, rows_word, mark_width}
 use Rattle.grammar.specs.Tree.{size}
 use Rattle.grammar.specs.Rows.{Span}
 use Rattle.grammar.specs.Table.{Rule, Table, Words, rule_words, row_words, resolve_table}
@@ -25,14 +27,16 @@ use Rattle.names.specs.Names.{end_word, rows_before}
 use Rattle.names.proofs.Finding.{rule_count, there, rule_words_lem, body_at}
 use Rattle.writing.specs.Writes.{stored}
 use Rattle.refusals.specs.Check.{lent, lowest, Passed, table_of}
+use Rattle.refusals.proofs.Fours.{neither_left}
 use Rattle.refusals.proofs.Verdicts.{counts}
 use Rattle.comparison.specs.Compare as compare
 use Rattle.comparison.specs.Compare.{Entry, full_list, max_entries, list_words, left_entries, right_entries, compare_words}
 use Rattle.comparison.proofs.Whole.{Fine, fine_table, fine_most}
 use Rattle.comparer.specs.Pairs.{Paired, Kept}
-use Rattle.comparer.specs.Lists.{Side, Standing, RuleIs, Added, unmet_from, seen}
-use Rattle.comparer.specs.declared.Compared.{Compared}
-use Rattle.comparer.proofs.Adding.{added_then}
+use Rattle.comparer.specs.Lists.{Sound, Standing, RuleIs, Added, unmet_from, seen}
+use Rattle.comparer.specs.declared.Refused.{Refused}
+use Rattle.comparer.specs.declared.Side.TheVariants.{Left, Right}
+use Rattle.comparer.proofs.Adding.{added_then, length_list}
 use Rattle.comparer.proofs.Pairing.{kept_ended}
 use Rattle.comparer.proofs.Lookups.{unmet_is}
 
@@ -42,7 +46,7 @@ module _ {rules rows : List ℕ} {text : Bytes} {m : List ℕ} (p : Passed (lent
   pub passed_stands : Standing p.table rules rows
   passed_stands = let i = table_is input_kinds rules rows p.table p.read in record { heads = i.rules; trees = i.rows }
 
-  pub passed_side : {m' : List ℕ} → Kept m m' → full_marks ≤ length m → Side rules rows text m'
+  pub passed_side : {m' : List ℕ} → Kept m m' → full_marks ≤ length m → Sound rules rows text m'
   passed_side k l =
       let c = counts rules rows text p.counts in
       record {
@@ -73,32 +77,35 @@ pub record SideRule (rules rows : List ℕ) (i : ℕ) : Type 0 where
   pub rule : Rule Span
   pub is : RuleIs rules rows i rule
 
-module _ {rules rows : List ℕ} {text : Bytes} {m : List ℕ} (s : Side rules rows text m) {i : ℕ} (l : i < length rules / rule_width) where
+module _ {rules rows : List ℕ} {text : Bytes} {m : List ℕ} (s : Sound rules rows text m) {i : ℕ} (l : i < length rules / rule_width) where
   pub side_rule : SideRule rules rows i
   side_rule = let t = there s.table i (omega (arith, l, rule_count s.table, ap length s.stands.heads)) in record { rule = t.rule; is = record { table = s.table; stands = s.stands; is = t.is } }
 
   -- where it ends, and its tree
-  pub side_end : {e : ℕ} → e ≡ get_or m (i * mark_width + end_word) 0 → e ≡ rows_before rules (suc i)
-  side_end h = h ∙ s.ended.end i l
+  abbrev ends : ℕ
+  ends = get_or m (i * mark_width + end_word) 0
 
-  pub side_stands : {e : ℕ} → e ≡ get_or m (i * mark_width + end_word) 0 → StandsIn rows (e - 1) (length text)
-  side_stands h =
+  side_end : ends ≡ rows_before rules (suc i)
+  side_end = s.ended.end i l
+
+  pub side_stands : StandsIn rows (ends - 1) (length text)
+  side_stands =
       let r = side_rule in
-      let a = subst (λ (n : ℕ). At rows (n - 1) r.rule.body) (sym (side_end h)) (rule_at r.is) in
+      let a = subst (λ (n : ℕ). At rows (n - 1) r.rule.body) (sym side_end) (rule_at r.is) in
       record { tree = r.rule.body; at = a; within = inside_within (length text) r.rule.body s.inside a }
 
-  pub root_at : {e : ℕ} {x : Rule Span} → e ≡ get_or m (i * mark_width + end_word) 0 → RuleIs rules rows i x → At rows (e - 1) x.body
-  root_at {x = x} h r = subst (λ (n : ℕ). At rows (n - 1) x.body) (sym (side_end h)) (rule_at r)
+  pub root_at : {x : Rule Span} → RuleIs rules rows i x → At rows (ends - 1) x.body
+  root_at {x = x} r = subst (λ (n : ℕ). At rows (n - 1) x.body) (sym side_end) (rule_at r)
 
   -- it has no more rows than there are
   pub side_most : {x : Rule Span} → RuleIs rules rows i x → size x.body ≤ max_rows
   side_most r = let a = root (rule_at r) in omega (arith, a.most, a.inside, s.small)
 
-  pub side_first : {e : ℕ} → e ≡ get_or m (i * mark_width + end_word) 0 → 1 ≤ e
-  side_first h =
+  pub side_first : 1 ≤ ends
+  side_first =
       let r = side_rule in
       let w : get_or rules (i * rule_width + rows_word) 0 ≡ size r.rule.body = subst (λ (v : List ℕ). get_or v (i * rule_width + rows_word) 0 ≡ size r.rule.body) r.is.stands.heads (rule_words_lem r.is.table i r.rule r.is.is).rows' in
-      omega (arith, side_end h, w, size_pos r.rule.body)
+      omega (arith, side_end, w, size_pos r.rule.body)
 
 -- ---- the whole answer
 
@@ -108,26 +115,27 @@ over_is ws l h = sets-eq ws l 0 (omega (arith, h)) ∙ ap (λ (n : ℕ). ws ++ d
 
 -- words that hold no more than 512 entries
 module _ (left right : Words) (list m₁ m₂ : List ℕ) where
-  pub short_is : {r : Compared} {b : Bool} → b ≡ (ltb (length list) full_list || (short_marks m₁ || short_marks m₂)) → b ≡ true → (r.number ≡ 1) × (r.side ≡ 0) × (r.count ≡ 0) → seen r list ≡ compare_words left right list m₁ m₂
+  pub short_is : (ltb (length list) full_list || (short_marks m₁ || short_marks m₂)) ≡ true → seen (Err (record { why = Area; side = Left })) list ≡ compare_words left right list m₁ m₂
   unfolding compare_words
-  short_is {r} e h k = rw (sym e ∙ h, k.0, k.1, k.2)
+  short_is h = rw h
 
   module _ (fine : (ltb (length list) full_list || (short_marks m₁ || short_marks m₂)) ≡ false) where
-    pub left_is : {r : Compared} {n : ℕ} → n ≡ lowest left → (n ≡ 0 → ⊥) → (r.number ≡ n) × (r.side ≡ 0) × (r.count ≡ 0) → seen r list ≡ compare_words left right list m₁ m₂
+    pub left_is : (r : Refused) → (number_of r.why ≡ lowest left) × (2 ≤ lowest left) × (r.side ≡ Left) → seen (Err r) list ≡ compare_words left right list m₁ m₂
     unfolding compare_words
-    left_is {r} {n} e h k = rw (fine, ← e, ne_eqb n 0 h, k.0, k.1, k.2)
+    left_is r k = rw (fine, ne_eqb (lowest left) 0 (λ z. omega (arith, z, k.1)), k.0, k.2)
 
     module _ (zero_left : 0 ≡ lowest left) where
-      pub right_is : {r : Compared} {n : ℕ} → n ≡ lowest right → (n ≡ 0 → ⊥) → (r.number ≡ n) × (r.side ≡ 1) × (r.count ≡ 0) → seen r list ≡ compare_words left right list m₁ m₂
+      pub right_is : (r : Refused) → (number_of r.why ≡ lowest right) × (2 ≤ lowest right) × (r.side ≡ Right) → seen (Err r) list ≡ compare_words left right list m₁ m₂
       unfolding compare_words
-      right_is {r} {n} e h k = rw (fine, ← zero_left, ← e, ne_eqb n 0 h, k.0, k.1, k.2)
+      right_is r k = rw (fine, ← zero_left, ne_eqb (lowest right) 0 (λ z. omega (arith, z, k.1)), k.0, k.2)
 
-      pub listed_is : {n : ℕ} {list' : List ℕ} → 0 ≡ lowest right → Added n 0 (compare.compare (table_of left) (table_of right)) list list' → length (list_words (compare.compare (table_of left) (table_of right))) ≤ length list → record { number = 0; side = 0; count = n; list = list' } ≡ compare_words left right list m₁ m₂
+      pub listed_is : {n : ℕ} {list' : List ℕ} → 0 ≡ lowest right → Added n 0 (compare.compare (table_of left) (table_of right)) list list' → length (compare.compare (table_of left) (table_of right)) ≤ max_entries → seen (Ok n) list' ≡ compare_words left right list m₁ m₂
       unfolding compare_words
       listed_is {n} {list'} zero_right a l =
           let es : List Entry = compare.compare (table_of left) (table_of right) in
           let c : n ≡ length es = a.count ∙ zero-add (length es) in
-          let d : list' ≡ over (list_words es) list = a.words ∙ over_is (list_words es) list l in
+          let room : full_list ≤ length list = ltb-false _ _ (neither_left (ltb (length list) full_list) (short_marks m₁ || short_marks m₂) fine) in
+          let d : list' ≡ over (list_words es) list = a.words ∙ over_is (list_words es) list (omega (arith, room, l, length_list es)) in
           rw (fine, ← zero_left, ← zero_right, c, d)
 
 -- the list of two tables that passed

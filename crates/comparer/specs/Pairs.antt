@@ -1,10 +1,8 @@
 -- Which rules of two tables have one name, as the memories of their marks say it. Assumes nothing.
-use Rattle.std.specs.Prelude.{◌≡◌, List, ℕ, zero, suc, ◌+◌, ◌*◌, ◌/◌, ◌<◌, length, get_or, set}
+use Rattle.std.specs.Prelude.{◌≡◌, List, ℕ, zero, suc, ◌+◌, ◌*◌, ◌/◌, ◌<◌, length, get_or, set, None, Option, Some}
 use Rattle.grammar.specs.Basic.{Bytes}
 use Rattle.grammar.specs.Numbers.{rule_width, mark_width}
 use Rattle.names.specs.Names.{memory_word, ways_word, end_word, name_of, Finds}
-use Rattle.names.specs.declared.Found.{Found}
-use Rattle.names.specs.declared.Found.TheVariants.{At, Nothing}
 
 -- the memory of rule i
 abbrev pub memory_at : List ℕ → ℕ → ℕ
@@ -14,18 +12,18 @@ abbrev pub with_memory : List ℕ → (i v : ℕ) → List ℕ
 with_memory marks i v = set marks (i * mark_width + memory_word) v
 
 -- a left rule's memory is 0, or one more than the number of the right rule with its name
-abbrev pub partner : ℕ → Found
-partner zero = Nothing
-partner (suc j) = At j
+abbrev pub partner : ℕ → Option ℕ
+partner zero = None
+partner (suc j) = Some j
 
-abbrev pub memory_of : Found → ℕ
-memory_of Nothing = 0
-memory_of (At j) = j + 1
+abbrev pub memory_of : Option ℕ → ℕ
+memory_of None = 0
+memory_of (Some j) = j + 1
 
 -- and that right rule's memory is 1
-abbrev pub met_by : Found → List ℕ → List ℕ
-met_by Nothing marks = marks
-met_by (At j) marks = with_memory marks j 1
+abbrev pub met_by : Option ℕ → List ℕ → List ℕ
+met_by None marks = marks
+met_by (Some j) marks = with_memory marks j 1
 
 -- some of the first n left rules has this name
 pub record Met (n : ℕ) (rules : List ℕ) (text name : Bytes) : Type 0 where
@@ -41,7 +39,7 @@ pub record Paired (n : ℕ) (rules₁ : List ℕ) (text₁ : Bytes) (rules₂ : 
 
 -- rule i is paired: what its name finds, and the memories with it
 pub record PairedOne (i : ℕ) (rules₁ : List ℕ) (text₁ : Bytes) (rules₂ : List ℕ) (text₂ : Bytes) (marks₁ marks₁' marks₂ marks₂' : List ℕ) : Type 0 where
-  pub found : Found
+  pub found : Option ℕ
   pub finds : Finds (length rules₂ / rule_width) rules₂ text₂ (name_of rules₁ text₁ i) found
   pub left : marks₁' ≡ with_memory marks₁ i (memory_of found)
   pub right : marks₂' ≡ met_by found marks₂

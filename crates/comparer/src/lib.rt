@@ -1,7 +1,7 @@
 // Two tables side by side: the list of their differences, and the literal of a row.
 #![tactic(auto)]
 
-ghost use Rattle.std.specs.Prelude.{◌≡◌, ◌||◌, [], ◌∷◌, ℕ, ◌+◌, ◌*◌, ◌/◌, ◌^◌, ◌≤◌, ◌<◌, length, get_or, ltb};
+ghost use Rattle.std.specs.Prelude.{◌≡◌, ◌||◌, cond, eqb, ⊤, [], ◌∷◌, ℕ, ◌+◌, ◌*◌, ◌/◌, ◌^◌, ◌≤◌, ◌<◌, length, get_or, ltb};
 ghost use Rattle.std.proofs.Math.Option.{some};
 ghost use Rattle.grammar.specs.Numbers.{rule_width, type_word, row_width, mark_width};
 ghost use Rattle.grammar.specs.Refusals.{full_marks};
@@ -17,15 +17,12 @@ ghost use Rattle.comparison.specs.Compare as compare;
 ghost use Rattle.comparison.specs.Compare.{entry_width, full_list, first_unlike, lookup, type_entry, common_entries, rule_entries, left_entries, compare_words, refused};
 ghost use Rattle.comparison.specs.Shown as literal;
 ghost use Rattle.comparer.specs.Pairs.{Paired, PairedOne, Kept};
-ghost use Rattle.comparer.specs.Lists.{SameRun, differs_at, Side, Standing, RuleIs, Added, unmet_from, seen};
+ghost use Rattle.comparer.specs.Lists.{SameRun, differs_at, sort_number, SideChecked, Sound, Standing, RuleIs, Added, unmet_from, seen};
 ghost use Rattle.comparer.specs.Shows.{seen_lit, Begins};
 
-use grammar::{
-    IDENT, INSENS, LENGTH, MARK_WIDTH, REFUSED_AREA, ROW_WIDTH, ROWS, RULE_WIDTH, SIZE, STR, TYPE,
-};
-use names::{END, Found, MEMORY};
+use grammar::{IDENT, INSENS, LENGTH, MARK_WIDTH, ROW_WIDTH, ROWS, RULE_WIDTH, Refusal, STR, TYPE};
+use names::{END, MEMORY};
 use refusals::FULL_MARKS;
-use rows::{Lookup, wide};
 
 // Full size of the list: 512 entries.
 pub const FULL_LIST: usize = 512 * ENTRY_WIDTH;
@@ -33,40 +30,38 @@ pub const FULL_LIST: usize = 512 * ENTRY_WIDTH;
 // An entry is a sort, the left rule, the right rule and a row.
 const ENTRY_WIDTH: usize = 4;
 
-const ONLY_LEFT: u32 = 0;
-
-const OTHER_TYPE: u32 = 1;
-
-const OTHER_TREE: u32 = 2;
-
-const ONLY_RIGHT: u32 = 3;
-
-// The sides.
-const LEFT: u32 = 0;
-
-const RIGHT: u32 = 1;
-
-// What a comparison answers: the refusal's number or 0, whose table is refused, and the number of entries.
+// What an entry says, by its number in the list.
 #[derive(Clone, Copy)]
-pub struct Compared {
-    pub number: u32,
-    pub side: u32,
-    pub count: u32,
+enum Sort {
+    OnlyLeft = 0,
+    OtherType = 1,
+    OtherTree = 2,
+    OnlyRight = 3,
 }
 
-// The literal of a row: 1 and a part of the side's text, or zeros.
-#[derive(Clone, Copy)]
+// The sides, by their numbers.
+#[derive(Clone, Copy, PartialEq, Eq)]
+pub enum Side {
+    Left = 0,
+    Right = 1,
+}
+
+const LEFT: u32 = Side::Left as u32;
+
+const RIGHT: u32 = Side::Right as u32;
+
+// A refusal, and whose table it is.
+#[derive(Clone, Copy, PartialEq, Eq)]
+pub struct Refused {
+    pub why: Refusal,
+    pub side: Side,
+}
+
+// The literal of a row: a part of the side's text.
+#[derive(Clone, Copy, PartialEq, Eq)]
 pub struct Literal {
-    pub found: u32,
     pub offset: u32,
     pub length: u32,
-}
-
-// Where two trees differ: the first differing row, counted from their first rows, or the shorter one's size if it is a prefix.
-#[derive(Clone, Copy)]
-pub enum Differs {
-    At(usize),
-    Nowhere,
 }
 
 // How many of n rows of one table from i and of another from j are the same before the first that is not.
@@ -84,12 +79,10 @@ fn same_run(
     requires by_index_2 { (k : ℕ) → k < n → LitInside rows2.now (length text2.now) (j + k) }
     ensures { SameRun text1.now rows1.now i text2.now rows2.now j n result }
 {
-    let mut k = 0;
-    while k < n {
+    for k in 0..n {
         if !rows::same_row(rows1, text1, i + k, rows2, text2, j + k) {
             return k;
         }
-        k += 1;
     }
     n
 }
@@ -102,30 +95,24 @@ fn first_difference(
     rows2: &[u32],
     text2: &[u8],
     j: usize,
-) -> Differs
+) -> Option<usize>
     requires stands_in { StandsIn rows1.now i (length text1.now) }
     requires stands_in_2 { StandsIn rows2.now j (length text2.now) }
     ensures { (r s : Expr Span) → At rows1.now i r → At rows2.now j s → differs_at result ≡ first_unlike (cells (resolve text1.now r)) (cells (resolve text2.now s)) }
 {
-    let n = wide(rows1[i * ROW_WIDTH + SIZE]);
-    let m = wide(rows2[j * ROW_WIDTH + SIZE]);
-    let least = if n < m { n } else { m };
+    let n = rows::size_at(rows1, i);
+    let m = rows::size_at(rows2, j);
+    let least = n.min(m);
     let k = same_run(rows1, text1, i + 1 - n, rows2, text2, j + 1 - m, least);
-    if k < least {
-        return Differs::At(k);
-    }
-    if n == m {
-        return Differs::Nowhere;
-    }
-    Differs::At(least)
+    if k == least && n == m { None } else { Some(k) }
 }
 
 // Writes entry n, where there is room for it, and tells how many there are then.
-fn put(list: &mut [u32], n: usize, sort: u32, left: u32, right: u32, row: u32) -> usize
+fn put(list: &mut [u32], n: usize, sort: Sort, left: u32, right: u32, row: u32) -> usize
     requires { n < length list.old / entry_width }
-    ensures { (result ≡ n + 1) × (list.new ≡ stored list.old (n * entry_width) (sort ∷ left ∷ right ∷ row ∷ [])) }
+    ensures { (result ≡ n + 1) × (list.new ≡ stored list.old (n * entry_width) (sort_number sort ∷ left ∷ right ∷ row ∷ [])) }
 {
-    writing::set_row(list, n, sort, left, right, row);
+    writing::set_row(list, n, sort as u32, left, right, row);
     n + 1
 }
 
@@ -145,7 +132,7 @@ fn list_type(
     if left_rules[i * RULE_WIDTH + TYPE] == right_rules[j * RULE_WIDTH + TYPE] {
         return n;
     }
-    put(list, n, OTHER_TYPE, i as u32, j as u32, 0)
+    put(list, n, Sort::OtherType, i as u32, j as u32, 0)
 }
 
 // The entries of left rule i and right rule j, which have one name, from entry n on: the type's first.
@@ -163,17 +150,17 @@ fn list_common(
     list: &mut [u32],
     n: usize,
 ) -> usize
-    requires side { Side left_rules.now left_rows.now left_text.now left_marks.now }
-    requires side_2 { Side right_rules.now right_rows.now right_text.now right_marks.now }
+    requires side { Sound left_rules.now left_rows.now left_text.now left_marks.now }
+    requires side_2 { Sound right_rules.now right_rows.now right_text.now right_marks.now }
     requires i_in_bounds { (i < length left_rules.now / rule_width) × (j < length right_rules.now / rule_width) × (n + 2 ≤ length list.old / entry_width) }
     ensures { (x y : Rule Span) → RuleIs left_rules.now left_rows.now i x → RuleIs right_rules.now right_rows.now j y → Added result n (common_entries i j (resolve_rule left_text.now x) (resolve_rule right_text.now y)) list.old list.new }
 {
     let m = list_type(left_rules, right_rules, i, j, list, n);
-    let a = wide(left_marks[i * MARK_WIDTH + END]) - 1;
-    let b = wide(right_marks[j * MARK_WIDTH + END]) - 1;
+    let a = left_marks[i * MARK_WIDTH + END] as usize - 1;
+    let b = right_marks[j * MARK_WIDTH + END] as usize - 1;
     match first_difference(left_rows, left_text, a, right_rows, right_text, b) {
-        Differs::Nowhere => m,
-        Differs::At(k) => put(list, m, OTHER_TREE, i as u32, j as u32, k as u32),
+        None => m,
+        Some(k) => put(list, m, Sort::OtherTree, i as u32, j as u32, k as u32),
     }
 }
 
@@ -191,15 +178,15 @@ fn list_rule(
     list: &mut [u32],
     n: usize,
 ) -> usize
-    requires side { Side left_rules.now left_rows.now left_text.now left_marks.now }
-    requires side_2 { Side right_rules.now right_rows.now right_text.now right_marks.now }
+    requires side { Sound left_rules.now left_rows.now left_text.now left_marks.now }
+    requires side_2 { Sound right_rules.now right_rows.now right_text.now right_marks.now }
     requires paired { Paired (length left_rules.now / rule_width) left_rules.now left_text.now right_rules.now right_text.now left_marks.now right_marks.now }
     requires i_in_bounds { (i < length left_rules.now / rule_width) × (n + 2 ≤ length list.old / entry_width) }
     ensures { (x : Rule Span) (u : Table Span) → RuleIs left_rules.now left_rows.now i x → Standing u right_rules.now right_rows.now → Added result n (rule_entries i (resolve_rule left_text.now x) (lookup 0 (resolve_table right_text.now u) (bytes_at left_text.now x.name))) list.old list.new }
 {
     let partner = left_marks[i * MARK_WIDTH + MEMORY];
     if partner == 0 {
-        return put(list, n, ONLY_LEFT, i as u32, 0, 0);
+        return put(list, n, Sort::OnlyLeft, i as u32, 0, 0);
     }
     list_common(
         left_rules,
@@ -211,7 +198,7 @@ fn list_rule(
         right_text,
         right_marks,
         i,
-        wide(partner) - 1,
+        partner as usize - 1,
         list,
         n,
     )
@@ -229,16 +216,14 @@ fn list_left(
     right_marks: &[u32],
     list: &mut [u32],
 ) -> usize
-    requires side { Side left_rules.now left_rows.now left_text.now left_marks.now }
-    requires side_2 { Side right_rules.now right_rows.now right_text.now right_marks.now }
+    requires side { Sound left_rules.now left_rows.now left_text.now left_marks.now }
+    requires side_2 { Sound right_rules.now right_rows.now right_text.now right_marks.now }
     requires paired { Paired (length left_rules.now / rule_width) left_rules.now left_text.now right_rules.now right_text.now left_marks.now right_marks.now }
     requires full_list_in_bounds { full_list ≤ length list.old }
     ensures { (t u : Table Span) → Standing t left_rules.now left_rows.now → Standing u right_rules.now right_rows.now → Added result 0 (left_entries 0 (resolve_table left_text.now t) (resolve_table right_text.now u)) list.old list.new }
 {
-    let count = left_rules.len() / RULE_WIDTH;
     let mut n = 0;
-    let mut i = 0;
-    while i < count {
+    for i in 0..left_rules.len() / RULE_WIDTH {
         n = list_rule(
             left_rules,
             left_rows,
@@ -252,7 +237,6 @@ fn list_left(
             list,
             n,
         );
-        i += 1;
     }
     n
 }
@@ -264,12 +248,10 @@ fn list_right(right_marks: &[u32], count: usize, list: &mut [u32], n: usize) -> 
     ensures { Added result n (unmet_from right_marks.now 0 count) list.old list.new }
 {
     let mut m = n;
-    let mut j = 0;
-    while j < count {
+    for j in 0..count {
         if right_marks[j * MARK_WIDTH + MEMORY] == 0 {
-            m = put(list, m, ONLY_RIGHT, 0, j as u32, 0);
+            m = put(list, m, Sort::OnlyRight, 0, j as u32, 0);
         }
-        j += 1;
     }
     m
 }
@@ -291,13 +273,13 @@ fn pair_one(
 {
     let at = i * RULE_WIDTH;
     let memory = i * MARK_WIDTH + MEMORY;
-    let Found::At(j) = names::find_rule(
+    let Some(j) = names::find_rule(
         right_rules,
         right_text,
         right_marks,
         left_text,
-        wide(left_rules[at]),
-        wide(left_rules[at + LENGTH]),
+        left_rules[at] as usize,
+        left_rules[at + LENGTH] as usize,
     ) else {
         left_marks[memory] = 0;
         return;
@@ -322,9 +304,7 @@ fn pair(
     ensures kept { Kept left_marks.old left_marks.new × Kept right_marks.old right_marks.new }
 {
     names::forget(right_marks, right_rules.len() / RULE_WIDTH);
-    let count = left_rules.len() / RULE_WIDTH;
-    let mut i = 0;
-    while i < count {
+    for i in 0..left_rules.len() / RULE_WIDTH {
         pair_one(
             left_rules,
             left_text,
@@ -334,7 +314,6 @@ fn pair(
             right_marks,
             i,
         );
-        i += 1;
     }
 }
 
@@ -381,24 +360,21 @@ fn list_all(
 fn is_short(list: usize, left_marks: usize, right_marks: usize) -> bool
     ensures { result ≡ (ltb list full_list || (ltb left_marks full_marks || ltb right_marks full_marks)) }
 {
-    if list < FULL_LIST {
-        return true;
-    }
-    if left_marks < FULL_MARKS {
-        return true;
-    }
-    right_marks < FULL_MARKS
+    list < FULL_LIST || left_marks < FULL_MARKS || right_marks < FULL_MARKS
 }
 
-// A refusal, and whose table it is.
-fn refused(number: u32, side: u32) -> Compared
-    ensures { (result.number ≡ number) × (result.side ≡ side) × (result.count ≡ 0) }
+// Refusals 2 to 6 of one side's table.
+fn check_side(
+    rules: &[u32],
+    rows: &[u32],
+    text: &[u8],
+    marks: &mut [u32],
+    side: Side,
+) -> Result<(), Refused>
+    requires { full_marks ≤ length marks.old }
+    ensures { SideChecked result side (lent rules.now rows.now text.now) marks.new }
 {
-    Compared {
-        number: number,
-        side: side,
-        count: 0,
-    }
+    refusals::check(rules, rows, text, marks).map_err(|why| Refused { why, side })
 }
 
 // The differences of two tables, in the list: any words get it, or the lowest refusal that holds, the left table's first. The marks are work areas.
@@ -412,20 +388,23 @@ pub fn compare(
     list: &mut [u32],
     left_marks: &mut [u32],
     right_marks: &mut [u32],
-) -> Compared
+) -> Result<u32, Refused>
     ensures { seen result list.new ≡ compare_words (lent left_rules.now left_rows.now left_text.now) (lent right_rules.now right_rows.now right_text.now) list.old left_marks.old right_marks.old }
 {
     if is_short(list.len(), left_marks.len(), right_marks.len()) {
-        return refused(REFUSED_AREA, LEFT);
+        return Err(Refused {
+            why: Refusal::Area,
+            side: Side::Left,
+        });
     }
-    let n = refusals::refusal(left_rules, left_rows, left_text, left_marks);
-    if n != 0 {
-        return refused(n, LEFT);
-    }
-    let m = refusals::refusal(right_rules, right_rows, right_text, right_marks);
-    if m != 0 {
-        return refused(m, RIGHT);
-    }
+    check_side(left_rules, left_rows, left_text, left_marks, Side::Left)?;
+    check_side(
+        right_rules,
+        right_rows,
+        right_text,
+        right_marks,
+        Side::Right,
+    )?;
     let count = list_all(
         left_rules,
         left_rows,
@@ -437,68 +416,29 @@ pub fn compare(
         right_marks,
         list,
     );
-    Compared {
-        number: 0,
-        side: 0,
-        count: count as u32,
-    }
-}
-
-// No literal.
-fn nothing() -> Literal
-    ensures { seen_lit result ≡ literal.nothing }
-{
-    Literal {
-        found: 0,
-        offset: 0,
-        length: 0,
-    }
+    Ok(count as u32)
 }
 
 // Whether a kind is that of a literal.
 fn is_lit(kind: u32) -> bool
     ensures { result ≡ literal.is_lit kind }
 {
-    if kind == STR {
-        return true;
-    }
-    if kind == INSENS {
-        return true;
-    }
-    kind == IDENT
+    kind == STR || kind == INSENS || kind == IDENT
 }
 
 // The literal at row i, if there is one and it lies in the text.
-fn lit_at(rows: &[u32], text: &[u8], i: usize) -> Literal
+fn lit_at(rows: &[u32], text: &[u8], i: usize) -> Option<Literal>
     ensures { seen_lit result ≡ literal.lit_at rows.now text.now i }
 {
-    let Lookup::Row {
-        kind,
-        x,
-        y,
-        size: _,
-    } = rows::row_at(rows, i)
-    else {
-        return nothing();
-    };
-    if !is_lit(kind) {
-        return nothing();
+    let row = rows::row_at(rows, i)?;
+    if is_lit(row.kind) && row.x as usize + row.y as usize <= text.len() {
+        Some(Literal {
+            offset: row.x,
+            length: row.y,
+        })
+    } else {
+        None
     }
-    if text.len() < wide(x) + wide(y) {
-        return nothing();
-    }
-    Literal {
-        found: 1,
-        offset: x,
-        length: y,
-    }
-}
-
-// A word as an index, with its bound.
-fn count_of(x: u32) -> usize
-    ensures { (result ≡ x) × (result < 2 ^ 32) }
-{
-    x as usize
 }
 
 // The first row of a rule that is there; of one that begins past the first `most` rows, any row past them.
@@ -507,26 +447,22 @@ fn first_row(rules: &[u32], rule: usize, most: usize) -> usize
     ensures { Begins rules.now rule most result }
 {
     let mut before: usize = 0;
-    let mut i = 0;
-    while i < rule {
-        before += count_of(rules[i * RULE_WIDTH + ROWS]);
+    for i in 0..rule {
+        before += rules[i * RULE_WIDTH + ROWS] as usize;
         if most < before {
             return before;
         }
-        i += 1;
     }
     before
 }
 
 // The literal at a row of a rule, counted from the rule's first row.
-fn shown_in(rules: &[u32], rows: &[u32], text: &[u8], rule: usize, row: usize) -> Literal
+#[tactic(auto, unfolding(comparison::specs::Shown::shown_in))]
+fn shown_in(rules: &[u32], rows: &[u32], text: &[u8], rule: usize, row: usize) -> Option<Literal>
     ensures { seen_lit result ≡ literal.shown_in (lent rules.now rows.now text.now) rule row }
 {
-    if rule >= rules.len() / RULE_WIDTH {
-        return nothing();
-    }
-    if row >= count_of(rules[rule * RULE_WIDTH + ROWS]) {
-        return nothing();
+    if rule >= rules.len() / RULE_WIDTH || row >= rules[rule * RULE_WIDTH + ROWS] as usize {
+        return None;
     }
     lit_at(
         rows,
@@ -536,6 +472,7 @@ fn shown_in(rules: &[u32], rows: &[u32], text: &[u8], rule: usize, row: usize) -
 }
 
 // The literal at a row of a rule of the asked side, 0 or 1: where it stands in that side's text. Any words get an answer.
+#[tactic(auto, unfolding(comparison::specs::Shown::shown))]
 pub fn place(
     left_rules: &[u32],
     left_rows: &[u32],
@@ -546,14 +483,21 @@ pub fn place(
     side: u32,
     rule: usize,
     row: usize,
-) -> Literal
+) -> Option<Literal>
     ensures { seen_lit result ≡ literal.shown (lent left_rules.now left_rows.now left_text.now) (lent right_rules.now right_rows.now right_text.now) side rule row }
 {
     match side {
         LEFT => shown_in(left_rules, left_rows, left_text, rule, row),
         RIGHT => shown_in(right_rules, right_rows, right_text, rule, row),
-        _ => nothing(),
+        _ => None,
     }
+}
+
+// The text of the asked side.
+fn asked<'a>(side: u32, left_text: &'a [u8], right_text: &'a [u8]) -> &'a [u8]
+    ensures { result.now ≡ cond (eqb side 0) left_text.now right_text.now }
+{
+    if side == LEFT { left_text } else { right_text }
 }
 
 // Its bytes, as a part of whichever text holds them; none where there is no such literal.
@@ -570,13 +514,19 @@ pub fn shown<'a>(
 ) -> &'a [u8]
     ensures { result.now ≡ literal.bytes_of (lent left_rules.now left_rows.now left_text.now) (lent right_rules.now right_rows.now right_text.now) side rule row }
 {
-    if side == LEFT {
-        let s = shown_in(left_rules, left_rows, left_text, rule, row);
-        return rows::part(left_text, wide(s.offset), wide(s.length));
+    let text = asked(side, left_text, right_text);
+    match place(
+        left_rules,
+        left_rows,
+        left_text,
+        right_rules,
+        right_rows,
+        right_text,
+        side,
+        rule,
+        row,
+    ) {
+        Some(lit) => rows::part(text, lit.offset as usize, lit.length as usize),
+        None => rows::part(text, 0, 0),
     }
-    if side == RIGHT {
-        let s = shown_in(right_rules, right_rows, right_text, rule, row);
-        return rows::part(right_text, wide(s.offset), wide(s.length));
-    }
-    rows::part(left_text, 0, 0)
 }

@@ -1,5 +1,4 @@
 -- Laws of concatenation.
 pub mod Concats
-pub mod Ends
 pub mod Nodes
 pub mod Quiets

@@ -19,17 +19,16 @@ use Rattle.rows.specs.Rows.{kind_at}
 use Rattle.rows.proofs.Laws.{head_of, root}
 use Rattle.rows.proofs.Views.{TwoView, shape_in}
 use Rattle.writing.specs.declared.Place.{Place}
-use Rattle.writing.specs.declared.Wrote.{Wrote}
-use Rattle.writing.specs.declared.Wrote.TheVariants.{Done, Full}
-use Rattle.writing.specs.Writes.{Areas, Fits}
-use Rattle.writing.specs.Keeps.{Kept, KeptAnswer, Ready}
+use Rattle.writing.specs.Writes.{Areas}
+use Rattle.writing.specs.Keeps.{Kept}
 use Rattle.writing.proofs.Runs.{take_stored, take_front}
 use Rattle.writing.proofs.Puts.{row_set}
 use Rattle.writing.proofs.Trees.{size_packed}
-use Rattle.writing.proofs.Keeps.{right_fits, ready_right, kept_bin, kept_at, kept_rows, at_end}
+use Rattle.writing.proofs.Keeps.{kept_bin, kept_at, kept_rows, at_end}
 use Rattle.chains.proofs.Walks.{Leaf}
-use Rattle.concatenator.specs.Joins.{joins_of, Order, Ended, EndAnswer}
-use Rattle.concatenator.proofs.Concats.{kind_in, lit_of, joined, join_kind, concat_lit, concat_fixed, concat_skip, concat_bin, concat_size, concat_text}
+use Rattle.chains.proofs.Nodes.{Step, Both}
+use Rattle.concatenator.specs.Joins.{joins_of, Order, Ended}
+use Rattle.concatenator.proofs.Concats.{kind_in, lit_of, joined, join_kind, concat_lit, concat_fixed, concat_skip, concat_un, concat_bin, concat_size, concat_text}
 
 pub concat_leaf : (t : Bytes) (r : Expr Span) → Leaf (shape_in r) → concatenate Atomic (resolve t r) ≡ resolve t r
 concat_leaf t (lit k s) h = concat_lit k _
@@ -79,45 +78,29 @@ module _ {p q s : Place} {e f : E} {o o₁ o₂ b b₁ b₂ : List ℕ} (w : Kep
         }
     ended_kept false a c o₃ h x = kept_bin w v c (bin_kind c, 0, 0) (s.rows - p.rows + 1) refl (omega (arith, w.rows, v.rows)) (row_set a s (bin_kind c, 0, 0) (s.rows - p.rows + 1) o₂ o₃ room x.rows x.text x.words)
 
-    pub end_kept : (a : Wrote) (c : Bin) (o₃ : List ℕ) → EndAnswer a (joins_of (bin_kind c) (kind_at o₂ (q.rows - 1)) (kind_at o₂ (s.rows - 1))) p s (bin_kind c) (kind_at o₂ (q.rows - 1)) o₂ o₃
-        → KeptAnswer a p (joined c e f) o o₃ b b₂
-    end_kept Full c o₃ h = h
-    end_kept (Done a) c o₃ h = ended_kept (joins_of (bin_kind c) (kind_in e) (kind_in f)) a c o₃ refl (rw (first_kind, second_kind) at h)
+    pub end_kept : (a : Place) (c : Bin) (o₃ : List ℕ) → Ended (joins_of (bin_kind c) (kind_at o₂ (q.rows - 1)) (kind_at o₂ (s.rows - 1))) a p s (bin_kind c) (kind_at o₂ (q.rows - 1)) o₂ o₃
+        → Kept a p (joined c e f) o o₃ b b₂
+    end_kept a c o₃ h = ended_kept (joins_of (bin_kind c) (kind_in e) (kind_in f)) a c o₃ refl (rw (first_kind, second_kind) at h)
 
--- a node of two children
-module _ (t : Bytes) {w : List ℕ} {i k x y n : ℕ} {r : Expr Span} (v : TwoView w i k x y n r) {p q : Place} {o o₁ b b₁ : List ℕ} (c : Kept q p (concatenate Atomic (resolve t v.left)) o o₁ b b₁)
-    (lo : length o₁ ≡ length o) (lb : length b₁ ≡ length b) (h : Fits p (resolve t r) o b) where
-  node_fits : Fits p (bin v.op (resolve t v.left) (resolve t v.right)) o b
-  node_fits = rw v.is at h
+-- ---- a node of two children
 
-  left_text : length (text_of (concatenate Atomic (resolve t v.left))) ≤ length (text_of (resolve t v.left))
-  left_text = omega (arith, ap length (concat_text (resolve t v.left)))
+pub concat_step : Step (concatenate Atomic)
+concat_step = record { over = concat_un; rows = concat_size; text = λ e. omega (arith, ap length (concat_text e)) }
 
-  second_fits : Fits q (resolve t v.right) o₁ b₁
-  second_fits = right_fits c (resolve t v.left) (concat_size (resolve t v.left)) lo left_text lb node_fits
+module _ {t : Bytes} {w : List ℕ} {i k x y n : ℕ} {r : Expr Span} (v : TwoView w i k x y n r) {p q s : Place} {o o₁ o₂ b b₁ b₂ : List ℕ} (h : Both (concatenate Atomic) t q p s v.left v.right o o₁ o₂ b b₁ b₂) where
+  pub two_order : Areas o₂ b₂ → Order p q s o₂
+  two_order a = record {
+    first = omega (arith, h.first.rows, size_pos (concatenate Atomic (resolve t v.left)));
+    second = omega (arith, h.second.rows, size_pos (concatenate Atomic (resolve t v.right)));
+    room = h.room;
+    words = a.words;
+    text = omega (arith, h.first.text, h.second.text);
+    bytes = omega (arith, a.bytes, h.end);
+  }
 
-  pub right_ready : Ready w t (i - 1) q o₁ b₁
-  right_ready = ready_right t v c (concat_size (resolve t v.left)) left_text lo lb h
-
-  module _ {s : Place} {o₂ b₂ : List ℕ} (d : Kept s q (concatenate Atomic (resolve t v.right)) o₁ o₂ b₁ b₂) (lo₂ : length o₂ ≡ length o₁) where
-    rows_left : s.rows < length o₂ / row_width
-    rows_left = omega (arith, node_fits.rows, c.rows, d.rows, concat_size (resolve t v.left), concat_size (resolve t v.right))
-
-    pub two_order : Areas o b → Order p q s o₂
-    two_order a = record {
-      first = omega (arith, c.rows, size_pos (concatenate Atomic (resolve t v.left)));
-      second = omega (arith, d.rows, size_pos (concatenate Atomic (resolve t v.right)));
-      room = rows_left;
-      words = omega (arith, a.words);
-      text = omega (arith, c.text, d.text);
-      bytes = omega (arith, a.bytes, second_fits.text, d.text, ap length (concat_text (resolve t v.right)));
-    }
-
-    pub two_kept : (a : Wrote) (o₃ : List ℕ) → EndAnswer a (joins_of k (kind_at o₂ (q.rows - 1)) (kind_at o₂ (s.rows - 1))) p s k (kind_at o₂ (q.rows - 1)) o₂ o₃
-        → KeptAnswer a p (concatenate Atomic (resolve t r)) o o₃ b b₂
-    two_kept a o₃ g =
-        rw (v.is, concat_bin v.op (resolve t v.left) (resolve t v.right))
-        (end_kept c d (omega (arith, node_fits.rows)) (omega (arith, second_fits.rows)) rows_left a v.op o₃ (rw v.kind at g))
+  pub two_kept : {kind : ℕ} {a : Place} {o₃ : List ℕ} → kind ≡ k → Ended (joins_of kind (kind_at o₂ (q.rows - 1)) (kind_at o₂ (s.rows - 1))) a p s kind (kind_at o₂ (q.rows - 1)) o₂ o₃
+      → Kept a p (concatenate Atomic (resolve t r)) o o₃ b b₂
+  two_kept {a} {o₃} e g = rw (v.is, concat_bin v.op (resolve t v.left) (resolve t v.right)) (end_kept h.first h.second h.rows h.rows₁ h.room a v.op o₃ (rw (e ∙ v.kind) at g))
 
 -- by a rule's type
 pub concat_atomic : (type : ℕ) → type ≡ 2 → (e : E) → concatenate Atomic e ≡ concatenate type e

@@ -4,8 +4,6 @@ use Rattle.grammar.specs.Numbers.{row_width, k_seq}
 use Rattle.grammar.specs.Rows.{row}
 use Rattle.writing.specs.Writes.{stored}
 use Rattle.writing.specs.declared.Place.{Place}
-use Rattle.writing.specs.declared.Wrote.{Wrote}
-use Rattle.writing.specs.declared.Wrote.TheVariants.{Done, Full}
 
 -- a node of kind k over roots of the kinds a and b is one literal: a Seq of two Str, or of two Insens
 unfoldable pub joins_of : ℕ → ℕ → ℕ → Bool
@@ -35,8 +33,3 @@ pub record OwnRow (a p s : Place) (k : ℕ) (o o' : List ℕ) : Type 0 where
 abbrev pub Ended : Bool → Place → Place → Place → ℕ → ℕ → (o o' : List ℕ) → Type 0
 Ended true a p s k l o o' = OneLit a p s l o o'
 Ended false a p s k l o o' = OwnRow a p s k o o'
-
--- never full: there is room
-abbrev pub EndAnswer : Wrote → Bool → Place → Place → ℕ → ℕ → (o o' : List ℕ) → Type 0
-EndAnswer (Done a) j p s k l o o' = Ended j a p s k l o o'
-EndAnswer Full j p s k l o o' = ⊥

@@ -12,66 +12,40 @@ ghost use Rattle.grammar.specs.Steps.{or_same, concat?, concatenate};
 ghost use Rattle.rows.specs.Rows.{kind_at, Inside, At, Stands};
 ghost use Rattle.writing.specs.Writes.{Areas};
 ghost use Rattle.writing.specs.Keeps.{KeptAnswer, Ready};
-ghost use Rattle.concatenator.specs.Joins.{joins_of, Order, EndAnswer};
+ghost use Rattle.concatenator.specs.Joins.{joins_of, Order, Ended};
 
-use grammar::{ATOMIC, RANGE, ROW_WIDTH, SEQ};
-use rows::Lookup;
-use writing::{Place, Wrote};
+use grammar::{ATOMIC, RANGE, SEQ};
+use writing::Place;
 
 // Whether a node of a kind over roots of two kinds is one literal.
+#[tactic(auto, unfolding(crate::specs::Joins::joins_of))]
 fn joins(kind: u32, a: u32, b: u32) -> bool
     ensures { result ≡ joins_of kind a b }
 {
-    if kind != SEQ {
-        return false;
-    }
-    if a < RANGE {
-        return a == b;
-    }
-    false
+    kind == SEQ && a < RANGE && a == b
 }
 
 // Ends a node of two children that stand from p to q and from q to s. Their literals are adjacent: one row names both.
-fn finish(out: &mut [u32], p: Place, q: Place, s: Place, kind: u32) -> Wrote
+fn finish(out: &mut [u32], p: Place, q: Place, s: Place, kind: u32) -> Place
     requires { Order p q s out.old }
-    ensures { EndAnswer result (joins_of kind (kind_at out.old (q.rows - 1)) (kind_at out.old (s.rows - 1))) p s kind (kind_at out.old (q.rows - 1)) out.old out.new }
+    ensures { Ended (joins_of kind (kind_at out.old (q.rows - 1)) (kind_at out.old (s.rows - 1))) result p s kind (kind_at out.old (q.rows - 1)) out.old out.new }
 {
-    let first = q.rows - 1;
-    let second = s.rows - 1;
-    let Lookup::Row {
-        kind: a,
-        x: _,
-        y: _,
-        size: _,
-    } = rows::row_at(out, first)
-    else {
-        return Wrote::Full;
-    };
-    let Lookup::Row {
-        kind: b,
-        x: _,
-        y: _,
-        size: _,
-    } = rows::row_at(out, second)
-    else {
-        return Wrote::Full;
-    };
-    let from = p.rows;
-    let at = p.text;
-    let end = s.rows;
-    let text = s.text;
-    if joins(kind, a, b) {
-        writing::set_row(out, from, a, at as u32, (text - at) as u32, 1);
-        Wrote::Done(Place {
-            rows: from + 1,
-            text,
-        })
+    let first = rows::kind_at(out, q.rows - 1);
+    let second = rows::kind_at(out, s.rows - 1);
+    if joins(kind, first, second) {
+        let n = s.text - p.text;
+        writing::set_row(out, p.rows, first, p.text as u32, n as u32, 1);
+        Place {
+            rows: p.rows + 1,
+            text: s.text,
+        }
     } else {
-        writing::set_row(out, end, kind, 0, 0, (end - from + 1) as u32);
-        Wrote::Done(Place {
-            rows: end + 1,
-            text,
-        })
+        let size = s.rows - p.rows + 1;
+        writing::set_row(out, s.rows, kind, 0, 0, size as u32);
+        Place {
+            rows: s.rows + 1,
+            text: s.text,
+        }
     }
 }
 
@@ -82,7 +56,7 @@ pub fn fires(rows: &[u32], i: usize) -> bool
     ensures { result ≡ false → (t : Bytes) (x : Expr Span) → At rows.now i x → or_same concat? (resolve t x) ≡ resolve t x }
 {
     let left = rows::left_of(rows, i);
-    joins(SEQ, rows[left * ROW_WIDTH], rows[(i - 1) * ROW_WIDTH])
+    joins(SEQ, rows::kind_at(rows, left), rows::kind_at(rows, i - 1))
 }
 
 // Writes the subtree of row `root`, which fits, at p: its children first, then its own row or the literal that they make.
@@ -93,7 +67,7 @@ fn bottom_up(
     out: &mut [u32],
     lits: &mut [u8],
     p: Place,
-) -> Wrote
+) -> Option<Place>
     requires inside { Inside rows.now (length text.now) }
     requires ready { Ready rows.now text.now root p out.old lits.old }
     requires areas { Areas out.old lits.old }
@@ -103,9 +77,10 @@ fn bottom_up(
     if !chains::forks(rows, base) {
         return writing::keep(rows, text, root, out, lits, p);
     }
-    let q = chains::ended(bottom_up(rows, text, rows::left_of(rows, base), out, lits, p));
-    let s = chains::ended(bottom_up(rows, text, base - 1, out, lits, q));
-    let e = chains::ended(finish(out, p, q, s, rows[base * ROW_WIDTH]));
+    let left = rows::left_of(rows, base);
+    let q = bottom_up(rows, text, left, out, lits, p).unwrap();
+    let s = bottom_up(rows, text, base - 1, out, lits, q).unwrap();
+    let e = finish(out, p, q, s, rows::kind_at(rows, base));
     chains::raise(rows, base, root, out, p, e)
 }
 
@@ -118,7 +93,7 @@ pub fn concatenate(
     out: &mut [u32],
     lits: &mut [u8],
     p: Place,
-) -> Wrote
+) -> Option<Place>
     requires inside { Inside rows.now (length text.now) }
     requires ready { Ready rows.now text.now root p out.old lits.old }
     requires areas { Areas out.old lits.old }

@@ -1,30 +1,21 @@
 -- The marks while rules are read: how many were not, and what a written memory leaves alone. Assumes nothing.
 use mathlib.Core.Path.{◌≡◌, refl, ap, ◌∙◌}
-use mathlib.Core.Bool.{Bool, true, false, cond}
 use mathlib.Core.List.{List}
-use Prim.Native.Nat.{ℕ, zero, suc, ◌+◌, ◌*◌, ◌≤◌, ◌<◌}
+use Prim.Native.Nat.{ℕ, zero, suc, ◌+◌, ◌-◌, ◌*◌, ◌/◌, ◌^◌, ◌≤◌, ◌<◌}
 use native.Mathlib.Decide.{dec_le}
 use native.Mathlib.Omega.{arith}
-use lib.Dec.{eqb}
-use lib.ListN.{length, set}
+use lib.ListN.{length, get_or, set, length-set}
 use lib.Seq.{get_or-set_same, get_or-set_other}
-use Rattle.grammar.specs.Numbers.{mark_width}
+use Rattle.grammar.specs.Numbers.{rule_width, mark_width}
 use Rattle.grammar.specs.Basic.{Bytes}
-use Rattle.grammar.proofs.Logic.{eqb_eq}
+use Rattle.rows.specs.Rows.{Stands}
+use Rattle.rows.proofs.Laws.{root}
 use Rattle.names.specs.Names.{memory_word, ways_word, end_word}
 use Rattle.names.proofs.Index.{index_kept}
 use Rattle.skipper.specs.Lends.{Given}
-use Rattle.explainer.specs.Reading.{memory_at, unread, Clean, Steady}
-
-abbrev is_zero : ℕ → ℕ
-is_zero w = cond (eqb w 0) 1 0
-
-not_zero : (v : ℕ) → 1 ≤ v → is_zero v ≡ 0
-not_zero v h = go (eqb v 0) refl
-  where
-    go : (b : Bool) → eqb v 0 ≡ b → ◌≡◌ {A = ℕ} (cond b 1 0) 0
-    go true e = absurd (omega (arith, eqb_eq v 0 e))
-    go false e = refl
+use Rattle.skipper.proofs.Rules.{is_zero, not_zero}
+use Rattle.skipper.proofs.Leaf.{rule_there, rule_stands}
+use Rattle.explainer.specs.Reading.{memory_at, unread, Clean, Steady, Ready}
 
 -- one memory is written
 module _ (m : List ℕ) (i v : ℕ) (h : i * mark_width + memory_word < length m) where
@@ -89,3 +80,32 @@ given_steady g s l =
       index = index_kept g.index l s.slots s.ways;
       ended = record { end = λ i h. s.end i ∙ g.ended.end i h };
     }
+
+-- a table is lent, and d of its rules are being read
+module _ {rules rows : List ℕ} {text : Bytes} {m l : List ℕ} {d : ℕ} (y : Ready rules rows text m l d) {i : ℕ} (b : i < length rules / rule_width) where
+  pub mark_inside : i * mark_width + memory_word < length m
+  mark_inside = omega (arith, b, y.given.index.long)
+
+  -- its rules and rows fit in words
+  pub place_fits : {at : ℕ} → Stands rows at → (i < 2 ^ 32) × (at < 2 ^ 32)
+  place_fits s = (omega (arith, b, y.few), omega (arith, (root s.at).inside, y.low))
+
+  -- the root of rule i
+  pub rule_root : Stands rows (get_or m (i * mark_width + end_word) 0 - 1)
+  rule_root = let r = rule_there y.given.table y.given.lent.heads i b in record { tree = r.rule.body; at = rule_stands y.given.lent i r b y.given.ended }
+
+  -- rule i was not read, and is being read now
+  module _ (z : memory_at m i ≡ 0) where
+    pub opens_less : unread (length rules / rule_width) (set m (i * mark_width + memory_word) 1) + 1 ≡ unread (length rules / rule_width) m
+    opens_less = unread_less m i 1 mark_inside (length rules / rule_width) b z (omega arith)
+
+    pub ready_opens : Ready rules rows text (set m (i * mark_width + memory_word) 1) l (d + 1)
+    ready_opens =
+        record {
+          given = given_steady y.given (steady_set m i 1 mark_inside (length rules / rule_width) b (omega arith)) (length-set m (i * mark_width + memory_word) 1);
+          few = y.few;
+          low = y.low;
+          clean = clean_set m i 1 mark_inside (length rules / rule_width) (λ _ q. absurd (q refl)) y.clean;
+          deep = omega (arith, y.deep, opens_less);
+          room = y.room;
+        }

@@ -3,13 +3,13 @@ use mathlib.Core.Path.{◌≡◌, subst, refl, sym, ap, ◌∙◌}
 use mathlib.Core.Bool.{cond}
 use mathlib.Core.List.{List, [], ◌∷◌, map}
 use mathlib.Core.Option.{none, some}
-use Prim.Native.Nat.{ℕ, zero, suc, ◌+◌, ◌-◌, ◌*◌, ◌/◌, ◌≤◌, ◌<◌}
+use Prim.Native.Nat.{ℕ, zero, suc, ◌+◌, ◌-◌, ◌/◌, ◌≤◌, ◌<◌}
 use native.Mathlib.Decide.{dec_le}
 use native.Mathlib.Omega.{arith}
 use borrow.Author.Tests.{lt-ltb, le-ltb, eq-eqb}
 use lib.Dec.{eqb, ltb}
 use lib.ListN.{length, get_or, get_elem?, length-map}
-use Rattle.grammar.specs.Numbers.{rule_width, rows_word}
+use Rattle.grammar.specs.Numbers.{rule_width}
 use Rattle.grammar.specs.Basic.{Bytes}
 use Rattle.grammar.specs.Tree.{Str, Expr, lit, fixed, skip, un, bin, size}
 use Rattle.grammar.specs.Rows.{Span}
@@ -24,6 +24,7 @@ use Rattle.names.specs.Names.{rows_before}
 use Rattle.names.proofs.Finding.{rule_words_lem, rule_count, rows_before_all, body_at}
 use Rattle.skipper.specs.Lends.{Lent}
 use Rattle.explanation.specs.Explain.{node_at, in_rule, node_from}
+use Rattle.explainer.proofs.Places.{before_later}
 
 -- ---- a tree
 
@@ -98,15 +99,6 @@ node_is s {w} {i} r a j h n q b = node_there s r a j (j + size r - 1 - i) (omega
 
 -- ---- a table
 
--- the rows before a rule, past the first rule
-before_more : (r : Rule Span) (t : Table Span) (k : ℕ) → rows_before (rule_words (r ∷ t)) (suc k) ≡ size r.body + rows_before (rule_words t) k
-before_more r t zero = omega arith
-before_more r t (suc k) =
-    let h : rows_before (rule_words (r ∷ t)) (suc k) ≡ size r.body + rows_before (rule_words t) k = before_more r t k in
-    let e : suc k * rule_width + rows_word ≡ suc (suc (suc (suc (k * rule_width + rows_word)))) = omega arith in
-    let g : get_or (rule_words (r ∷ t)) (suc k * rule_width + rows_word) 0 ≡ get_or (rule_words t) (k * rule_width + rows_word) 0 = rw e in
-    omega arith
-
 module _ (s : Bytes) where
   -- the first rule has number n
   node_from_lem : (t : Table Span) (n k : ℕ) (r : Rule Span) → get_elem? t k ≡ some r → (j : ℕ) → rows_before (rule_words t) k ≤ j → j < rows_before (rule_words t) (suc k)
@@ -118,8 +110,8 @@ module _ (s : Bytes) where
       let f : j ≡ j - 0 = omega arith in
       if_less j (size (resolve s q.body)) _ _ (omega (arith, size_resolve s q.body)) (rw (z, ← e) (ap (λ (x : ℕ). in_rule n q.type (node_at (resolve s q.body) x)) f))
   node_from_lem (q ∷ t) n (suc k) r h j l m =
-      let c = before_more q t k in
-      let d = before_more q t (suc k) in
+      let c = before_later q t k in
+      let d = before_later q t (suc k) in
       let b : size (resolve s q.body) ≡ size q.body = size_resolve s q.body in
       let e : suc n + k ≡ n + suc k = omega arith in
       let f : j - size (resolve s q.body) - rows_before (rule_words t) k ≡ j - rows_before (rule_words (q ∷ t)) (suc k) = omega arith in

@@ -1,9 +1,9 @@
 -- The parts of a loop, row by row, and what is told of a reading that began with nothing open. Assumes nothing.
-use mathlib.Core.Path.{◌≡◌, refl, sym, ap, ◌∙◌}
+use mathlib.Core.Path.{◌≡◌, refl, sym, ap, ap₂, ◌∙◌}
 use mathlib.Core.Bool.{false≢true, Bool, true, false, cond}
 use mathlib.Core.List.{List, [], ◌∷◌, ◌++◌}
 use mathlib.Core.Option.{some}
-use Prim.Native.Nat.{ℕ, ◌-◌, ◌≤◌}
+use Prim.Native.Nat.{ℕ, suc, ◌-◌, ◌≤◌}
 use native.Mathlib.Nat.{zero-add}
 use native.Mathlib.Omega.{arith}
 use lib.ListN.{length, drop}
@@ -24,12 +24,12 @@ use Rattle.writing.specs.Writes.{stored}
 use Rattle.skipper.specs.Memory.{Marks}
 use Rattle.skipper.specs.Loops.{Idle}
 use Rattle.skipper.proofs.Leaf.{read_found_lem, left_stands}
-use Rattle.explanation.specs.Ends.{Ends, reads, unknown, other, again}
-use Rattle.explanation.specs.Explain.{Answer, not_seq, not_neg_pred, not_any, ends, of_right, of_seq, plain, ends_told}
-use Rattle.explainer.specs.declared.Told.{Told}
-use Rattle.explainer.specs.Reading.{Within, Way, Says}
+use Rattle.explanation.specs.Ends.{Ends, reads, unknown, other, again, ends_in, ends_name}
+use Rattle.explanation.specs.Explain.{Answer, not_seq, not_neg_pred, not_any, ends, of_right, of_seq, plain, ends_told, answer_told}
+use Rattle.explainer.specs.declared.Explained.{Explained}
+use Rattle.explainer.specs.declared.Reason.{Reason}
+use Rattle.explainer.specs.Reading.{number_of, Numbered, Within, Way, Says}
 use Rattle.explainer.specs.Answers.{seen_told}
-use Rattle.explainer.proofs.Arms.{Numbered}
 
 -- ---- what is told
 
@@ -37,21 +37,27 @@ over_is : (vs l : List ℕ) → length vs ≤ length l → stored l 0 vs ≡ ove
 unfolding stored
 over_is vs l h = sets-eq vs l 0 (omega (arith, h)) ∙ ap (λ (n : ℕ). vs ++ drop n l) (zero-add (length vs))
 
-pub told_of : {a : Told} {w : Ends} {l l' : List ℕ} → Says a w [] 0 l l' → seen_told a l' ≡ ends_told w l
+told_of : {a : Explained} {w : Ends} {l l' : List ℕ} → Says a w [] 0 l l' → seen_told a l' ≡ ends_told w l
 told_of {a} {w} {l} {l'} h = go w h.answer h.rule h.at h.met h.count h.way
   where
     bare : h.tail ≡ [] → l' ≡ over [] l
     bare e = h.list ∙ ap (stored l 0) e ∙ over_is [] l (omega arith)
 
-    go : (v : Ends) → a.answer ≡ (ends_told v []).answer → a.rule ≡ (ends_told v []).rule → a.at ≡ (ends_told v []).at → a.met ≡ (ends_told v []).met → a.opened ≡ (ends_told v []).open' → Way v [] 0 (length l) h.tail → seen_told a l' ≡ ends_told v l
+    go : (v : Ends) → number_of a.answer ≡ (ends_told v []).answer → a.rule ≡ (ends_told v []).rule → a.at ≡ (ends_told v []).at → a.met ≡ (ends_told v []).met → a.opened ≡ (ends_told v []).open' → Way v [] 0 (length l) h.tail → seen_told a l' ≡ ends_told v l
     go reads p q r s c y = rw (p, q, r, s, c, bare y)
     go (unknown i at) p q r s c y = rw (p, q, r, s, c, bare y)
     go (other i at) p q r s c y = rw (p, q, r, s, c, bare y)
     go (again i at j x) p q r s c y = let e : l' ≡ over x l = h.list ∙ ap (stored l 0) (sym y.0) ∙ over_is x l (omega (arith, ap length y.0, y.1)) in rw (p, q, r, s, c, e)
 
 -- an answer without a place
-pub plain_told : {a : Told} {n : ℕ} (l : List ℕ) → Numbered a n 0 0 0 0 → seen_told a l ≡ plain n l
-plain_told l h = rw (h.0, h.1, h.2, h.3, h.4)
+pub plain_told : {a : Explained} {r : Reason} {v w : Answer} (l : List ℕ) → Numbered a r 0 0 0 0 → v ≡ w → plain (number_of r) l ≡ answer_told w l → seen_told a l ≡ answer_told v l
+plain_told l h e g = rw (h.0, h.1, h.2, h.3, h.4, e) g
+
+-- that of a reading that began with nothing open; it reads from row p
+pub read_told : {a : Explained} (t : Table Bytes) (i : ℕ) {p at : ℕ} (x : E) {v : Answer} {l l' : List ℕ} → Says a (ends_in (ends_name (suc (length t) - 0) t []) i p x) [] 0 l l' → p ≡ at → v ≡ ends (ends_in (ends_name (suc (length t)) t []) i at x) → seen_told a l' ≡ answer_told v l
+read_told t i x {l = l} h e g =
+    let fuel : suc (length t) - 0 ≡ suc (length t) = omega arith in
+    told_of h ∙ ap₂ (λ (n k : ℕ). ends_told (ends_in (ends_name n t []) i k x) l) fuel e ∙ ap (λ (w : Answer). answer_told w l) (sym g)
 
 -- the right side is an Ident ANY, or not
 pub no_any : {b : Bool} (a : Answer) → b ≡ false → cond b a not_any ≡ not_any

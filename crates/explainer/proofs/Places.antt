@@ -1,4 +1,5 @@
 -- The rule that a name finds, as the definitions place it. Assumes nothing.
+use Rattle.std.specs.Prelude.{None}
 use mathlib.Core.Path.{◌≡◌, refl, sym, ap, ap₂, ◌∙◌, subst}
 use mathlib.Core.Bool.{Bool, true, false, ◌||◌, cond}
 use mathlib.Core.List.{List, [], ◌∷◌}
@@ -7,28 +8,34 @@ use Prim.Native.Nat.{ℕ, zero, suc, ◌+◌, ◌-◌, ◌*◌, ◌/◌, ◌≤�
 use native.Mathlib.Nat.{add-zero}
 use native.Mathlib.Omega.{arith}
 use lib.ListN.{length, get_or, get_elem?}
-use Rattle.grammar.specs.Numbers.{rule_width, rows_word}
+use Rattle.grammar.specs.Numbers.{rule_width, rows_word, row_width, k_ident}
 use Rattle.grammar.specs.Basic.{Bytes, same_bytes, member}
-use Rattle.grammar.specs.Tree.{E, size}
+use Rattle.grammar.specs.Tree.{Ident, E, size}
 use Rattle.grammar.specs.Rows.{Span}
 use Rattle.grammar.specs.Text.{bytes_at, resolve}
 use Rattle.grammar.specs.Table.{Rule, Table, rule_words, resolve_table, find}
 use Rattle.grammar.proofs.Logic.{none_some, some_eq, same_bytes_eq, eq_same_bytes}
 use Rattle.grammar.proofs.Readings.{unopened}
-use Rattle.rows.proofs.Cells.{size_resolve}
+use Rattle.rows.specs.Rows.{Inside, kind_at, x_at, y_at}
+use Rattle.rows.proofs.Laws.{found_row}
+use Rattle.rows.proofs.Cells.{in_text, lit_shape, size_resolve}
 use Rattle.names.specs.Names.{name_of, rows_before, First, Finds}
-use Rattle.names.specs.declared.Found.TheVariants.{Nothing}
 use Rattle.names.proofs.Finding.{There, differ}
 use Rattle.skipper.proofs.Leaf.{name_missing}
 use Rattle.explanation.specs.Ends.{Place, place_from}
 use Rattle.explanation.proofs.Ties.{place_some}
+
+-- ---- an Ident's literal
+
+pub ident_inside : (w : List ℕ) {n i x y : ℕ} → Inside w n → i < length w / row_width → kind_at w i ≡ k_ident → x ≡ x_at w i → y ≡ y_at w i → x + y ≤ n
+ident_inside w inside h z p q = rw (p, q) (in_text _ inside (found_row _ _ h) (rw z (lit_shape Ident)))
 
 -- ---- the rows before a rule
 
 word_later : (a b c d : ℕ) (ws : List ℕ) (k n : ℕ) → get_or (a ∷ b ∷ c ∷ d ∷ ws) (suc k * rule_width + n) 0 ≡ get_or ws (k * rule_width + n) 0
 word_later a b c d ws k n = let e : suc k * rule_width + n ≡ suc (suc (suc (suc (k * rule_width + n)))) = omega arith in rw e
 
-before_later : (r : Rule Span) (t : Table Span) (k : ℕ) → rows_before (rule_words (r ∷ t)) (suc k) ≡ size r.body + rows_before (rule_words t) k
+pub before_later : (r : Rule Span) (t : Table Span) (k : ℕ) → rows_before (rule_words (r ∷ t)) (suc k) ≡ size r.body + rows_before (rule_words t) k
 before_later r t zero = omega arith
 before_later r t (suc k) = omega (arith, before_later r t k, word_later r.name.0 r.name.1 r.type (size r.body) (rule_words t) k rows_word)
 
@@ -63,7 +70,7 @@ module _ {rules : List ℕ} (t : Table Span) (heads : rules ≡ rule_words t) (s
       (place_first 0 0 t s x k r.rule r.is (rw (← heads) f.same) (λ j h q. f.first j h (rw heads q))
       ∙ ap₂ (λ (a b : ℕ). some (record { rule = a; root = b; body = resolve s r.rule.body })) (omega arith) (omega arith))
 
-  pub place_missing : Finds (length rules / rule_width) rules s x Nothing → place_from 0 0 (resolve_table s t) x ≡ none
+  pub place_missing : Finds (length rules / rule_width) rules s x None → place_from 0 0 (resolve_table s t) x ≡ none
   place_missing n = go (place_from 0 0 (resolve_table s t) x) refl
     where
       go : (o : Option Place) → place_from 0 0 (resolve_table s t) x ≡ o → o ≡ none

@@ -36,6 +36,9 @@ pub record Sited (rules : List ℕ) (n j : ℕ) : Type 0 where
   pub low : rows_before rules rule ≤ j
   pub high : j < rows_before rules (suc rule)
 
+abbrev pub site_of : {rules : List ℕ} {n j i : ℕ} → (i < n) × (rows_before rules i ≤ j) × (j < rows_before rules (suc i)) → Sited rules n j
+site_of {i} h = record { rule = i; below = h.0; low = h.1; high = h.2 }
+
 pub sited : (rules : List ℕ) (n j : ℕ) → j < rows_before rules n → Sited rules n j
 sited rules zero j h = absurd (omega (arith, h))
 sited rules (suc n) j h = go (dec_le (rows_before rules n) j) (sited rules n j)

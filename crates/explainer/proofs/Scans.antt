@@ -15,10 +15,11 @@ use Rattle.grammar.specs.Rows.{Span}
 use Rattle.grammar.specs.Text.{resolve}
 use Rattle.grammar.proofs.Logic.{or_left, or_right}
 use Rattle.rows.specs.declared.Shape.TheVariants.{Two}
-use Rattle.rows.specs.Rows.{kind_at, size_at, At, AtStrs, shape_of}
+use Rattle.rows.specs.Rows.{kind_at, size_at, At, AtStrs, Stands, shape_of}
 use Rattle.rows.proofs.Laws.{head_of, root, at_un, at_left_lem, at_right_lem, at_strs, at_first, at_others}
 use Rattle.rows.proofs.Cells.{bin_shape}
 use Rattle.rows.proofs.Views.{TwoView, shape_in, shape_in_lem, not_pair, at_unique}
+use Rattle.scans.proofs.Laws.{rows_stand}
 use Rattle.explanation.proofs.Nests.{is_bin, nests_at}
 
 -- ---- one row
@@ -87,7 +88,7 @@ module _ (t : Bytes) {w : List ℕ} where
       go (no e) f = f (omega arith)
 
   -- a row that nests is a node that does
-  pub row_nests : {i : ℕ} (r : Expr Span) → At w i r → (j : ℕ) → i < j + size r → j ≤ i → (q : Expr Span) → At w j q → nests_at (resolve t q) ≡ true → any_node nests_at (resolve t r) ≡ true
+  row_nests : {i : ℕ} (r : Expr Span) → At w i r → (j : ℕ) → i < j + size r → j ≤ i → (q : Expr Span) → At w j q → nests_at (resolve t q) ≡ true → any_node nests_at (resolve t r) ≡ true
   row_nests (lit k s) a j h l q b n = root_nests (lit k s) q a j (omega arith) b n
   row_nests (fixed f) a j h l q b n = root_nests (fixed f) q a j (omega arith) b n
   row_nests {i} (skip ss) a j h l q b n = go (dec_le i j)
@@ -130,6 +131,14 @@ flat_more {w} {from} {i} f g t j q l h a = go (dec_le i j)
 -- the first row of a tree, by the size that stands at its root
 pub first_row : {w : List ℕ} {i : ℕ} {r : Expr Span} (n : ℕ) → n ≡ size_at w i → At w i r → i + 1 - n + size r ≡ i + 1
 first_row n e a = omega (arith, (root a).rows, (root a).most)
+
+-- row j of a tree of n rows, whose root is row i
+module _ {w : List ℕ} {i n j : ℕ} (e : n ≡ size_at w i) (l : i + 1 - n ≤ j) (h : j < i + 1) where
+  pub row_there : Stands w i → Stands w j
+  row_there s = rows_stand s.tree s.at j (omega (arith, l, first_row n e s.at)) (omega (arith, h))
+
+  pub row_tells : (s : Stands w i) (t : Bytes) (r : Expr Span) → At w i r → ((z : Stands w j) → nests_at (resolve t z.tree) ≡ true) → true ≡ any_node nests_at (resolve t r)
+  row_tells s t r a q = sym (row_nests t r a j (omega (arith, l, first_row n e a)) (omega (arith, h)) (row_there s).tree (row_there s).at (q (row_there s)))
 
 pub flat_all : {w : List ℕ} {from i end : ℕ} (t : Bytes) (r : Expr Span) → At w i r → from + size r ≡ i + 1 → i + 1 ≤ end → FlatRows w from end → any_node nests_at (resolve t r) ≡ false
 flat_all t r a e l f = rows_flat t r a (λ j q h n b. f t j q (omega arith) (omega arith) b)

@@ -1,31 +1,34 @@
 -- A table that passed refusals 2 to 6, with its memories cleared; and the whole answer. Assumes nothing.
+use Rattle.std.specs.Prelude.{⊤, Result, Ok, Err}
 use mathlib.Core.Path.{◌≡◌, sym, ap, ◌∙◌, subst}
 use mathlib.Core.Bool.{Bool, true, false, cond, ◌||◌}
 use mathlib.Core.List.{List, []}
 use mathlib.Core.Option.{Option}
 use Prim.Native.Nat.{ℕ, zero, suc, ◌+◌, ◌/◌, ◌≤◌}
 use native.Mathlib.Omega.{arith}
-use borrow.Author.Tests.{ne_eqb}
+use borrow.Author.Tests.{ltb-false, ne_eqb}
 use lib.Dec.{eqb, ltb}
 use lib.ListN.{length}
-use Rattle.grammar.specs.Numbers.{rule_width}
+use Rattle.grammar.specs.Numbers.{rule_width, number_of, number_in}
+use Rattle.grammar.specs.declared.Refusal.{Refusal}
+use Rattle.grammar.specs.declared.Refusal.TheVariants.{Area}
 use Rattle.grammar.specs.Basic.{Bytes, or_else}
 use Rattle.grammar.specs.Rows.{Span}
 use Rattle.grammar.specs.Table.{Table, Words, resolve_table}
 use Rattle.grammar.specs.Reading.{input_kinds}
-use Rattle.grammar.specs.Refusals.{short_marks}
+use Rattle.grammar.specs.Refusals.{full_marks, short_marks}
 use Rattle.grammar.proofs.Words.{table_is}
 use Rattle.names.proofs.Marks.{marked_at}
 use Rattle.skipper.specs.Lends.{Lent, Given}
 use Rattle.skipper.proofs.Tables.{cleared, cleared_given, cleared_idle, cleared_known}
-use Rattle.refusals.specs.Check.{lent, lowest, Passed, table_of}
+use Rattle.refusals.specs.Check.{lent, lowest, Passed, table_of, Checked}
+use Rattle.refusals.proofs.Fours.{neither_left, neither_right}
 use Rattle.refusals.proofs.Verdicts.{counts}
 use Rattle.explanation.specs.Explain as explanation
 use Rattle.explanation.specs.Explain.{full_list, answer_told, explain_words}
 use Rattle.explainer.specs.Reading.{memory_at, unread}
 use Rattle.explainer.specs.Answers.{seen_told, seen, Fresh}
 use Rattle.explainer.specs.declared.Explained.{Explained}
-use Rattle.explainer.specs.declared.Told.{Told}
 
 -- ---- a table that passed
 
@@ -67,30 +70,32 @@ module _ {rules rows : List ℕ} {text : Bytes} {m : List ℕ} (p : Passed (lent
   passed_fresh {m'} {l} e h = subst (λ (v : List ℕ). Fresh rules rows text v l) (sym e) (fresh h)
 
   -- what holds of every table that is lent holds of the one that the words are read as
-  pub passed_told : (row : ℕ) (list : List ℕ) {a : Told} {list' : List ℕ} → ((t : Table Span) → Lent rules rows t → seen_told a list' ≡ answer_told (explanation.explain (resolve_table text t) row) list) → seen_told a list' ≡ answer_told (explanation.explain (table_of (lent rules rows text)) row) list
-  passed_told row list f =
+  pub passed_told : (row : ℕ) (list : List ℕ) (a : Explained) {list' : List ℕ} → ((t : Table Span) → Lent rules rows t → seen_told a list' ≡ answer_told (explanation.explain (resolve_table text t) row) list) → seen_told a list' ≡ answer_told (explanation.explain (table_of (lent rules rows text)) row) list
+  passed_told row list a f =
       let e : table_of (lent rules rows text) ≡ resolve_table text p.table = ap (λ (o : Option (Table Span)). resolve_table text (or_else o [])) p.read in
       f p.table passed_lent ∙ ap (λ (t : Table Bytes). answer_told (explanation.explain t row) list) (sym e)
 
 -- ---- the whole answer
 
--- a refusal has no answer, and an answer is as it was told
-abbrev Refused : Explained → ℕ → Type 0
-Refused r n = (r.number ≡ n) × (r.answer ≡ 0) × (r.rule ≡ 0) × (r.at ≡ 0) × (r.met ≡ 0) × (r.opened ≡ 0)
+-- b says whether the list or the marks are short
+module _ (list marks : List ℕ) {b : Bool} (short : b ≡ (ltb (length list) full_list || short_marks marks)) where
+  pub full_areas : b ≡ false → (full_list ≤ length list) × (full_marks ≤ length marks)
+  full_areas h = let e = sym short ∙ h in (ltb-false _ _ (neither_left (ltb (length list) full_list) (short_marks marks) e), ltb-false _ _ (neither_right (ltb (length list) full_list) (short_marks marks) e))
 
-abbrev Answered : Explained → Told → Type 0
-Answered r a = (r.number ≡ 0) × (r.answer ≡ a.answer) × (r.rule ≡ a.rule) × (r.at ≡ a.at) × (r.met ≡ a.met) × (r.opened ≡ a.opened)
-
-module _ (w : Words) (row : ℕ) (list marks : List ℕ) where
-  pub short_is : {r : Explained} {b : Bool} → b ≡ (ltb (length list) full_list || short_marks marks) → b ≡ true → Refused r 1 → seen r list ≡ explain_words w row list marks
-  unfolding explain_words
-  short_is {r} e h k = rw (sym e ∙ h, k.0, k.1, k.2, k.3, k.4, k.5)
-
-  module _ (fine : (ltb (length list) full_list || short_marks marks) ≡ false) where
-    pub refused_is : {r : Explained} {n : ℕ} → n ≡ lowest w → (n ≡ 0 → ⊥) → Refused r n → seen r list ≡ explain_words w row list marks
+  module _ (w : Words) (row : ℕ) where
+    pub short_is : b ≡ true → seen (Err Area) list ≡ explain_words w row list marks
     unfolding explain_words
-    refused_is {r} {n} e h k = rw (fine, ← e, ne_eqb n 0 h, k.0, k.1, k.2, k.3, k.4, k.5)
+    short_is h = rw (sym short ∙ h)
 
-    pub answered_is : {r : Explained} {a : Told} {list' : List ℕ} → 0 ≡ lowest w → Answered r a → seen_told a list' ≡ answer_told (explanation.explain (table_of w) row) list → seen r list' ≡ explain_words w row list marks
-    unfolding explain_words
-    answered_is {r} {a} {list'} e k h = rw (fine, ← e, k.0, k.1, k.2, k.3, k.4, k.5) h
+    module _ (fine : b ≡ false) {v : Result ⊤ Refusal} {m : List ℕ} (c : Checked v w m) where
+      pub refused_is : {r : Refusal} → v ≡ Err r → seen (Err r) list ≡ explain_words w row list marks
+      unfolding explain_words
+      refused_is {r} h =
+          let n : number_of r ≡ lowest w = ap number_in (sym h) ∙ c.number in
+          rw (sym short ∙ fine, ← n, ne_eqb (number_of r) 0 (λ z. omega (arith, z, c.refused r h)))
+
+      pub answered_is : (a : Explained) {list' : List ℕ} → v ≡ Ok tt → seen_told a list' ≡ answer_told (explanation.explain (table_of w) row) list → seen (Ok a) list' ≡ explain_words w row list marks
+      unfolding explain_words
+      answered_is a h g =
+          let n : 0 ≡ lowest w = ap number_in (sym h) ∙ c.number in
+          rw (sym short ∙ fine, ← n) g

@@ -1,5 +1,7 @@
 -- Answers by value, with the list afterwards, and marks in which nothing is remembered. Assumes nothing.
-use Rattle.std.specs.Prelude.{List, ℕ}
+use Rattle.std.specs.Prelude.{List, ℕ, Result, Ok, Err}
+use Rattle.grammar.specs.Numbers as Numbers
+use Rattle.grammar.specs.declared.Refusal.{Refusal}
 use Rattle.grammar.specs.Basic.{Bytes}
 use Rattle.grammar.specs.Rows.{Span}
 use Rattle.grammar.specs.Table.{Table, resolve_table}
@@ -8,15 +10,15 @@ use Rattle.skipper.specs.Lends.{marks_of, Lent}
 use Rattle.skipper.specs.Loops.{Idle}
 use Rattle.explanation.specs.Explain as explanation
 use Rattle.explainer.specs.declared.Explained.{Explained}
-use Rattle.explainer.specs.declared.Told.{Told}
-use Rattle.explainer.specs.Reading.{Ready}
+use Rattle.explainer.specs.Reading.{number_of, Ready}
 
 -- an answer that is no refusal
-abbrev pub seen_told : Told → List ℕ → explanation.Explained
-seen_told a list = record { number = 0; answer = a.answer; rule = a.rule; at = a.at; met = a.met; open' = a.opened; list = list }
+abbrev pub seen_told : Explained → List ℕ → explanation.Explained
+seen_told a list = record { number = 0; answer = number_of a.answer; rule = a.rule; at = a.at; met = a.met; open' = a.opened; list = list }
 
-abbrev pub seen : Explained → List ℕ → explanation.Explained
-seen r list = record { number = r.number; answer = r.answer; rule = r.rule; at = r.at; met = r.met; open' = r.opened; list = list }
+abbrev pub seen : Result Explained Refusal → List ℕ → explanation.Explained
+seen (Ok a) list = seen_told a list
+seen (Err r) list = explanation.refused (Numbers.number_of r) list
 
 -- nothing was read, and nothing is being read
 pub record Fresh (rules rows : List ℕ) (text : Bytes) (m l : List ℕ) : Type 0 where

@@ -1,6 +1,6 @@
 -- A reading of rows that tells where it ends: the marks that it goes by, the rules that it is in, and what it answers. Assumes nothing.
-use Rattle.std.specs.Prelude.{◌≡◌, Bool, true, false, cond, List, [], ◌∷◌, ◌++◌, ℕ, zero, suc, ◌+◌, ◌-◌, ◌*◌, ◌/◌, ◌≤◌, ◌<◌, eqb, length, get_or, set}
-use Rattle.grammar.specs.Numbers.{rule_width, row_width, mark_width}
+use Rattle.std.specs.Prelude.{◌≡◌, cond, List, [], ◌++◌, ℕ, zero, suc, ◌+◌, ◌-◌, ◌*◌, ◌/◌, ◌≤◌, ◌<◌, eqb, length, get_or}
+use Rattle.grammar.specs.Numbers.{rule_width, mark_width}
 use Rattle.grammar.specs.Basic.{Bytes}
 use Rattle.grammar.specs.Refusals.{full_rules, full_rows}
 use Rattle.grammar.specs.Rows.{Span}
@@ -12,9 +12,28 @@ use Rattle.writing.specs.Writes.{stored}
 use Rattle.skipper.specs.Memory.{Marks, Opened, Known}
 use Rattle.skipper.specs.Lends.{marks_of, Given, ReadsOf}
 use Rattle.explanation.specs.Ends.{Ends, reads, unknown, other, again, Look, ends_name}
-use Rattle.explanation.specs.Explain.{Explained, ends_told}
+use Rattle.explanation.specs.Explain.{ends_told}
 use Rattle.explanation.proofs.Ties.{Numbers}
-use Rattle.explainer.specs.declared.Told.{Told}
+use Rattle.explainer.specs.declared.Explained.{Explained}
+use Rattle.explainer.specs.declared.Reason.{Reason}
+use Rattle.explainer.specs.declared.Reason.TheVariants.{BecomesSkip, NotRep, Regroup, NotAtomic, NotSeq, NotNegPred, NotAny, Unknown, Other, MetAgain}
+
+-- the answers by their numbers
+abbrev pub number_of : Reason → ℕ
+number_of BecomesSkip = 0
+number_of NotRep = 1
+number_of Regroup = 2
+number_of NotAtomic = 3
+number_of NotSeq = 4
+number_of NotNegPred = 5
+number_of NotAny = 6
+number_of Unknown = 7
+number_of Other = 8
+number_of MetAgain = 9
+
+-- an answer and the numbers that tell where
+abbrev pub Numbered : Explained → Reason → (rule at met count : ℕ) → Type 0
+Numbered a r i at j k = (a.answer ≡ r) × (a.rule ≡ i) × (a.at ≡ at) × (a.met ≡ j) × (a.opened ≡ k)
 
 -- the memory of rule i
 abbrev pub memory_at : List ℕ → ℕ → ℕ
@@ -60,8 +79,8 @@ Way (other i at) o d n tail = tail ≡ []
 Way (again i at j p) o d n tail = (p ≡ o ++ tail) × (d + length tail ≤ n)
 
 -- the answer a says that a reading ended in w; the list l became l', with what is behind the first d rules on the way
-pub record Says (a : Told) (w : Ends) (o : List ℕ) (d : ℕ) (l l' : List ℕ) : Type 0 where
-  pub answer : a.answer ≡ (ends_told w []).answer
+pub record Says (a : Explained) (w : Ends) (o : List ℕ) (d : ℕ) (l l' : List ℕ) : Type 0 where
+  pub answer : number_of a.answer ≡ (ends_told w []).answer
   pub rule : a.rule ≡ (ends_told w []).rule
   pub at : a.at ≡ (ends_told w []).at
   pub met : a.met ≡ (ends_told w []).met
@@ -72,8 +91,8 @@ pub record Says (a : Told) (w : Ends) (o : List ℕ) (d : ℕ) (l l' : List ℕ)
 
 -- the reading f of the table t with the text s and n rules, with its places e, while d rules are being read: it answered a, and changed the marks m to m' and
 -- the list l to l'
-pub record ReadSo (s : Bytes) (t : Table Span) (n d : ℕ) (m m' l l' : List ℕ) (a : Told) (f : (Bytes → Reading) → Reading) (e : Look → Ends) : Type 0 where
+pub record ReadSo (s : Bytes) (t : Table Span) (n d : ℕ) (m m' l l' : List ℕ) (a : Explained) (f : (Bytes → Reading) → Reading) (e : Look → Ends) : Type 0 where
   pub steady : Steady n m m'
-  pub clean : a.answer ≡ 0 → Clean n m'
-  pub reads' : a.answer ≡ 0 → ReadsOf s t m m' 3 f
+  pub clean : a.answer ≡ BecomesSkip → Clean n m'
+  pub reads' : a.answer ≡ BecomesSkip → ReadsOf s t m m' 3 f
   pub says : (o : List ℕ) (names : List Bytes) → Known (resolve_table s t) (marks_of (resolve_table s t) m) → Within (resolve_table s t) (marks_of (resolve_table s t) m) o names d → Says a (e (ends_name (suc (length (resolve_table s t)) - d) (resolve_table s t) o)) o d l l'

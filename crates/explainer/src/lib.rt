@@ -19,16 +19,15 @@ ghost use Rattle.explanation.specs.Ends.{ends_left, ends_in, ends_name};
 ghost use Rattle.explanation.specs.Explain as explain;
 ghost use Rattle.explanation.specs.Explain.{Answer, not_any, of_right, of_seq, answer_told};
 ghost use Rattle.explanation.proofs.Nests.{nests_at};
-ghost use Rattle.explainer.specs.Reading.{memory_at, Ready, ReadSo};
+ghost use Rattle.explainer.specs.Reading.{number_of, Numbered, memory_at, Ready, ReadSo};
 ghost use Rattle.explainer.specs.Answers.{seen_told, seen, Fresh};
 
 use grammar::{
-    ATOMIC, CHOICE, IDENT, MARK_WIDTH, NEG_PRED, PAIR, REFUSED_AREA, REP, ROW_WIDTH, RULE_WIDTH,
-    SEQ, SIZE, STR, TYPE, X, Y,
+    ATOMIC, CHOICE, IDENT, MARK_WIDTH, NEG_PRED, PAIR, REP, ROW_WIDTH, RULE_WIDTH, Refusal, SEQ,
+    STR, TYPE,
 };
-use names::{END, Found, MEMORY};
+use names::{END, MEMORY};
 use refusals::FULL_MARKS;
-use rows::wide;
 
 // A rule's memory: it is being read; it was read to a list.
 const OPEN: u32 = 1;
@@ -38,109 +37,46 @@ const LIST: u32 = 3;
 // Full size of the list: a word for each rule.
 pub const FULL_LIST: usize = 256;
 
-// The answers.
-const BECOMES_SKIP: u32 = 0;
+// Why a row stays a loop, or that it becomes a Skip: the answers by their numbers, in the order in which they are asked.
+#[derive(Clone, Copy, PartialEq, Eq)]
+pub enum Reason {
+    BecomesSkip = 0,
+    NotRep = 1,
+    Regroup = 2,
+    NotAtomic = 3,
+    NotSeq = 4,
+    NotNegPred = 5,
+    NotAny = 6,
+    Unknown = 7,
+    Other = 8,
+    MetAgain = 9,
+}
 
-const NOT_REP: u32 = 1;
+impl From<Reason> for u32 {
+    ghost from_gives = { λ r n. n ≡ number_of r };
 
-const REGROUP: u32 = 2;
+    fn from(r: Reason) -> u32 {
+        r as u32
+    }
+}
 
-const NOT_ATOMIC: u32 = 3;
-
-const NOT_SEQ: u32 = 4;
-
-const NOT_NEG_PRED: u32 = 5;
-
-const NOT_ANY: u32 = 6;
-
-const UNKNOWN: u32 = 7;
-
-const OTHER: u32 = 8;
-
-const MET_AGAIN: u32 = 9;
-
-// What a row is answered: the refusal's number or 0, and then the answer, the rule and the row at which the reading of its list ended, the rule met again,
-// and how many were being read then.
+// What a row is answered: the answer, the rule and the row at which the reading of its list ended, the rule met again, and how many were being read then.
 #[derive(Clone, Copy)]
 pub struct Explained {
-    pub number: u32,
-    pub answer: u32,
+    pub answer: Reason,
     pub rule: u32,
     pub at: u32,
     pub met: u32,
     pub opened: u32,
 }
 
-// How a reading ended: the answer, the rule and the row of it, the rule met again, and how many were being read then.
-#[derive(Clone, Copy)]
-pub struct Told {
-    pub answer: u32,
-    pub rule: u32,
-    pub at: u32,
-    pub met: u32,
-    pub opened: u32,
-}
-
-// The kind of row i.
-fn kind_at(rows: &[u32], i: usize) -> u32
-    requires { i < length rows.now / row_width }
-    ensures { result ≡ kind_at rows.now i }
-{
-    rows[i * ROW_WIDTH]
-}
-
-// The rule that the Ident of row i names.
-fn rule_at(rules: &[u32], rows: &[u32], text: &[u8], marks: &[u32], i: usize) -> Found
-    requires all_indexed { AllIndexed rules.now text.now marks.now }
-    requires inside { Inside rows.now (length text.now) }
-    requires i_in_bounds { (i < length rows.now / row_width) × (kind_at rows.now i ≡ k_ident) }
-    ensures { Finds (length rules.now / rule_width) rules.now text.now (bytes_at text.now (x_at rows.now i, y_at rows.now i)) result }
-{
-    let at = i * ROW_WIDTH;
-    names::find_rule(
-        rules,
-        text,
-        marks,
-        text,
-        wide(rows[at + X]),
-        wide(rows[at + Y]),
-    )
-}
-
-// A reading that came to its end.
-fn to_list() -> Told
-    ensures { (result.answer ≡ 0) × (result.rule ≡ 0) × (result.at ≡ 0) × (result.met ≡ 0) × (result.opened ≡ 0) }
-{
-    Told {
-        answer: BECOMES_SKIP,
-        rule: 0,
-        at: 0,
-        met: 0,
-        opened: 0,
-    }
-}
-
-// A reading that ended at a row of a rule.
-fn ended(answer: u32, rule: usize, at: usize) -> Told
-    requires { (rule < 2 ^ 32) × (at < 2 ^ 32) }
-    ensures { (result.answer ≡ answer) × (result.rule ≡ rule) × (result.at ≡ at) × (result.met ≡ 0) × (result.opened ≡ 0) }
-{
-    Told {
-        answer: answer,
-        rule: rule as u32,
-        at: at as u32,
-        met: 0,
-        opened: 0,
-    }
-}
-
-// One that ended there with a rule met again.
-fn met_again(rule: usize, at: usize, met: usize, opened: usize) -> Told
+// An answer with its place.
+fn told(answer: Reason, rule: usize, at: usize, met: usize, opened: usize) -> Explained
     requires { (rule < 2 ^ 32) × (at < 2 ^ 32) × (met < 2 ^ 32) × (opened < 2 ^ 32) }
-    ensures { (result.answer ≡ 9) × (result.rule ≡ rule) × (result.at ≡ at) × (result.met ≡ met) × (result.opened ≡ opened) }
+    ensures { Numbered result answer rule at met opened }
 {
-    Told {
-        answer: MET_AGAIN,
+    Explained {
+        answer: answer,
         rule: rule as u32,
         at: at as u32,
         met: met as u32,
@@ -148,22 +84,46 @@ fn met_again(rule: usize, at: usize, met: usize, opened: usize) -> Told
     }
 }
 
-// Remembers that rule i was read to a list, if so it was.
-fn close(marks: &mut [u32], i: usize, answer: u32)
-    requires { i * mark_width + memory_word < length marks.old }
-    ensures { marks.new ≡ cond (eqb answer 0) (set marks.old (i * mark_width + memory_word) 3) marks.old }
+// One without: also that of a reading that came to its end.
+fn plain(answer: Reason) -> Explained
+    ensures { Numbered result answer 0 0 0 0 }
 {
-    if answer == BECOMES_SKIP {
+    told(answer, 0, 0, 0, 0)
+}
+
+// The rule that the Ident of row i names.
+fn rule_at(rules: &[u32], rows: &[u32], text: &[u8], marks: &[u32], i: usize) -> Option<usize>
+    requires all_indexed { AllIndexed rules.now text.now marks.now }
+    requires inside { Inside rows.now (length text.now) }
+    requires i_in_bounds { (i < length rows.now / row_width) × (kind_at rows.now i ≡ k_ident) }
+    ensures { Finds (length rules.now / rule_width) rules.now text.now (bytes_at text.now (x_at rows.now i, y_at rows.now i)) result }
+{
+    names::find_rule(
+        rules,
+        text,
+        marks,
+        text,
+        rows::x_at(rows, i),
+        rows::y_at(rows, i),
+    )
+}
+
+// Remembers that rule i was read to a list, if so it was.
+fn close(marks: &mut [u32], i: usize, answer: Reason)
+    requires { i * mark_width + memory_word < length marks.old }
+    ensures { marks.new ≡ cond (eqb (number_of answer) 0) (set marks.old (i * mark_width + memory_word) 3) marks.old }
+{
+    if answer == Reason::BecomesSkip {
         marks[i * MARK_WIDTH + MEMORY] = LIST;
     }
 }
 
 // Writes rule i at its depth on the way to a rule met again.
-fn note(list: &mut [u32], depth: usize, i: usize, answer: u32)
+fn note(list: &mut [u32], depth: usize, i: usize, answer: Reason)
     requires { (depth < length list.old) × (i < 2 ^ 32) }
-    ensures { list.new ≡ cond (eqb answer 9) (set list.old depth i) list.old }
+    ensures { list.new ≡ cond (eqb (number_of answer) 9) (set list.old depth i) list.old }
 {
-    if answer == MET_AGAIN {
+    if answer == Reason::MetAgain {
         list[depth] = i as u32;
     }
 }
@@ -178,13 +138,13 @@ fn read_rule(
     list: &mut [u32],
     i: usize,
     depth: usize,
-) -> Told
+) -> Explained
     requires ready { Ready rules.now rows.now text.now marks.old list.old depth }
     requires i_in_bounds { (i < length rules.now / rule_width) × (memory_at marks.old i ≡ 0) }
     ensures { (t : Table Span) (x : Bytes) (rule at : ℕ) → Lent rules.now rows.now t → First (length rules.now / rule_width) rules.now text.now x i → ReadSo text.now t (length rules.now / rule_width) depth marks.old marks.new list.old list.new result (λ look. look x) (λ look. look rule at x) }
 {
     let at = i * MARK_WIDTH;
-    let end = wide(marks[at + END]);
+    let end = marks[at + END] as usize;
     marks[at + MEMORY] = OPEN;
     let a = read_in(rules, rows, text, marks, list, i, end - 1, depth + 1);
     close(marks, i, a.answer);
@@ -203,29 +163,29 @@ fn read_leaf(
     i: usize,
     root: usize,
     depth: usize,
-) -> Told
+) -> Explained
     requires ready { Ready rules.now rows.now text.now marks.old list.old depth }
     requires stands { Stands rows.now root × (i < length rules.now / rule_width) }
     ensures { (t : Table Span) (r : Expr Span) → Lent rules.now rows.now t → At rows.now root r → ReadSo text.now t (length rules.now / rule_width) depth marks.old marks.new list.old list.new result (λ look. read_left look (resolve text.now r)) (λ look. ends_left look i root (resolve text.now r)) }
 {
-    let kind = kind_at(rows, root);
+    let kind = rows::kind_at(rows, root);
     if kind == STR {
-        return to_list();
+        return plain(Reason::BecomesSkip);
     }
     if kind != IDENT {
-        return ended(OTHER, i, root);
+        return told(Reason::Other, i, root, 0, 0);
     }
-    let Found::At(j) = rule_at(rules, rows, text, marks, root) else {
-        return ended(UNKNOWN, i, root);
+    let Some(j) = rule_at(rules, rows, text, marks, root) else {
+        return told(Reason::Unknown, i, root, 0, 0);
     };
     let memory = marks[j * MARK_WIDTH + MEMORY];
     if memory == 0 {
         return read_rule(rules, rows, text, marks, list, j, depth);
     }
     if memory == OPEN {
-        return met_again(i, root, j, depth);
+        return told(Reason::MetAgain, i, root, j, depth);
     }
-    to_list()
+    plain(Reason::BecomesSkip)
 }
 
 // Reads an expression of rule i, whose root is row `root`: of a Choice the left side, then the right.
@@ -239,16 +199,16 @@ fn read_in(
     i: usize,
     root: usize,
     depth: usize,
-) -> Told
+) -> Explained
     requires ready { Ready rules.now rows.now text.now marks.old list.old depth }
     requires stands { Stands rows.now root × (i < length rules.now / rule_width) }
     ensures { (t : Table Span) (r : Expr Span) → Lent rules.now rows.now t → At rows.now root r → ReadSo text.now t (length rules.now / rule_width) depth marks.old marks.new list.old list.new result (λ look. read_in look (resolve text.now r)) (λ look. ends_in look i root (resolve text.now r)) }
 {
     let mut at = root;
-    while kind_at(rows, at) == CHOICE {
+    while rows::kind_at(rows, at) == CHOICE {
         let left = rows::left_of(rows, at);
         let a = read_leaf(rules, rows, text, marks, list, i, left, depth);
-        if a.answer != BECOMES_SKIP {
+        if a.answer != Reason::BecomesSkip {
             return a;
         }
         at -= 1;
@@ -256,29 +216,13 @@ fn read_in(
     read_leaf(rules, rows, text, marks, list, i, at, depth)
 }
 
-// An answer without a place.
-fn plain(answer: u32) -> Told
-    ensures { (result.answer ≡ answer) × (result.rule ≡ 0) × (result.at ≡ 0) × (result.met ≡ 0) × (result.opened ≡ 0) }
-{
-    Told {
-        answer: answer,
-        rule: 0,
-        at: 0,
-        met: 0,
-        opened: 0,
-    }
-}
-
 // Whether row i, a Seq or a Choice, has one of its kind on its left.
 fn nests(rows: &[u32], i: usize) -> bool
     requires { Stands rows.now i }
     ensures { (t : Bytes) (r : Expr Span) → At rows.now i r → result ≡ nests_at (resolve t r) }
 {
-    let kind = kind_at(rows, i);
-    if kind / 2 != PAIR {
-        return false;
-    }
-    kind_at(rows, rows::left_of(rows, i)) == kind
+    let kind = rows::kind_at(rows, i);
+    kind / 2 == PAIR && rows::kind_at(rows, rows::left_of(rows, i)) == kind
 }
 
 // Whether any row of the tree of row `root` does: then step 1 changes it.
@@ -287,12 +231,10 @@ fn nested(rows: &[u32], root: usize) -> bool
     ensures { (t : Bytes) (r : Expr Span) → At rows.now root r → result ≡ any_node nests_at (resolve t r) }
 {
     let end = root + 1;
-    let mut i = end - wide(rows[root * ROW_WIDTH + SIZE]);
-    while i < end {
+    for i in end - rows::size_at(rows, root)..end {
         if nests(rows, i) {
             return true;
         }
-        i += 1;
     }
     false
 }
@@ -304,12 +246,10 @@ fn rule_of(rules: &[u32], marks: &[u32], row: usize) -> usize
     ensures { (result < length rules.now / rule_width) × (rows_before rules.now result ≤ row) × (row < rows_before rules.now (suc result)) }
 {
     let count = rules.len() / RULE_WIDTH;
-    let mut i = 0;
-    while i < count {
-        if row < wide(marks[i * MARK_WIDTH + END]) {
+    for i in 0..count {
+        if row < marks[i * MARK_WIDTH + END] as usize {
             return i;
         }
-        i += 1;
     }
     count
 }
@@ -320,11 +260,7 @@ fn is_any(rows: &[u32], text: &[u8], i: usize) -> bool
     ensures a_value { (r : Expr Span) → At rows.now i r → (a : Answer) → of_right (as_ident (resolve text.now r)) a ≡ cond result a not_any }
     ensures i_value { result ≡ true → size_at rows.now i ≡ 1 }
 {
-    if kind_at(rows, i) != IDENT {
-        return false;
-    }
-    let at = i * ROW_WIDTH;
-    names::is_any(text, wide(rows[at + X]), wide(rows[at + Y]))
+    rows::kind_at(rows, i) == IDENT && names::is_any(text, rows::x_at(rows, i), rows::y_at(rows, i))
 }
 
 // Reads the list of row `row`, a Rep of rule i, if it is Rep of Seq of NegPred e and Ident ANY.
@@ -336,21 +272,21 @@ fn read_loop(
     list: &mut [u32],
     i: usize,
     row: usize,
-) -> Told
+) -> Explained
     requires fresh { Fresh rules.now rows.now text.now marks.old list.old }
     requires stands { Stands rows.now row × (kind_at rows.now row ≡ k_rep) × (i < length rules.now / rule_width) }
     ensures { (t : Table Span) (q : Expr Span) (e : E) → Lent rules.now rows.now t → At rows.now row q → as_rep (resolve text.now q) ≡ some e → seen_told result list.new ≡ answer_told (of_seq (as_seq e) (ends_in (ends_name (suc (length (resolve_table text.now t))) (resolve_table text.now t) []) i (row - 4))) list.old }
 {
     let seq = row - 1;
-    if kind_at(rows, seq) != SEQ {
-        return plain(NOT_SEQ);
+    if rows::kind_at(rows, seq) != SEQ {
+        return plain(Reason::NotSeq);
     }
     let left = rows::left_of(rows, seq);
-    if kind_at(rows, left) != NEG_PRED {
-        return plain(NOT_NEG_PRED);
+    if rows::kind_at(rows, left) != NEG_PRED {
+        return plain(Reason::NotNegPred);
     }
     if !is_any(rows, text, seq - 1) {
-        return plain(NOT_ANY);
+        return plain(Reason::NotAny);
     }
     read_in(rules, rows, text, marks, list, i, left - 1, 0)
 }
@@ -363,22 +299,19 @@ fn explain_row(
     marks: &mut [u32],
     list: &mut [u32],
     row: usize,
-) -> Told
+) -> Explained
     requires { Fresh rules.now rows.now text.now marks.old list.old }
     ensures { (t : Table Span) → Lent rules.now rows.now t → seen_told result list.new ≡ answer_told (explain.explain (resolve_table text.now t) row) list.old }
 {
-    if row >= rows.len() / ROW_WIDTH {
-        return plain(NOT_REP);
-    }
-    if kind_at(rows, row) != REP {
-        return plain(NOT_REP);
+    if row >= rows.len() / ROW_WIDTH || rows::kind_at(rows, row) != REP {
+        return plain(Reason::NotRep);
     }
     let i = rule_of(rules, marks, row);
     if nested(rows, row) {
-        return plain(REGROUP);
+        return plain(Reason::Regroup);
     }
     if rules[i * RULE_WIDTH + TYPE] != ATOMIC {
-        return plain(NOT_ATOMIC);
+        return plain(Reason::NotAtomic);
     }
     read_loop(rules, rows, text, marks, list, i, row)
 }
@@ -387,36 +320,7 @@ fn explain_row(
 fn is_short(list: usize, marks: usize) -> bool
     ensures { result ≡ (ltb list explain.full_list || ltb marks full_marks) }
 {
-    if list < FULL_LIST {
-        return true;
-    }
-    marks < FULL_MARKS
-}
-
-fn refused(number: u32) -> Explained
-    ensures { (result.number ≡ number) × (result.answer ≡ 0) × (result.rule ≡ 0) × (result.at ≡ 0) × (result.met ≡ 0) × (result.opened ≡ 0) }
-{
-    Explained {
-        number: number,
-        answer: 0,
-        rule: 0,
-        at: 0,
-        met: 0,
-        opened: 0,
-    }
-}
-
-fn answered(a: Told) -> Explained
-    ensures { (result.number ≡ 0) × (result.answer ≡ a.answer) × (result.rule ≡ a.rule) × (result.at ≡ a.at) × (result.met ≡ a.met) × (result.opened ≡ a.opened) }
-{
-    Explained {
-        number: 0,
-        answer: a.answer,
-        rule: a.rule,
-        at: a.at,
-        met: a.met,
-        opened: a.opened,
-    }
+    list < FULL_LIST || marks < FULL_MARKS
 }
 
 // Why the row stays a loop, or that it becomes a Skip: any words get an answer, or the lowest refusal that holds. The marks are a work area.
@@ -427,16 +331,13 @@ pub fn explain(
     row: usize,
     list: &mut [u32],
     marks: &mut [u32],
-) -> Explained
+) -> Result<Explained, Refusal>
     ensures { seen result list.new ≡ explain.explain_words (lent rules.now rows.now text.now) row list.old marks.old }
 {
     if is_short(list.len(), marks.len()) {
-        return refused(REFUSED_AREA);
+        return Err(Refusal::Area);
     }
-    let n = refusals::refusal(rules, rows, text, marks);
-    if n != 0 {
-        return refused(n);
-    }
+    refusals::check(rules, rows, text, marks)?;
     names::forget(marks, rules.len() / RULE_WIDTH);
-    answered(explain_row(rules, rows, text, marks, list, row))
+    Ok(explain_row(rules, rows, text, marks, list, row))
 }

@@ -1,4 +1,5 @@
 -- A Seq's sides in rows, and the case of a Choice by what was told of its sides. Assumes nothing.
+use Rattle.std.specs.Prelude.{None, Option, Some}
 use mathlib.Core.Path.{◌≡◌, ap, subst}
 use mathlib.Core.Bool.{Bool, true}
 use mathlib.Core.List.{List}
@@ -12,7 +13,6 @@ use Rattle.rows.specs.Rows.{At, Inside, StandsIn}
 use Rattle.rows.proofs.Views.{SidesAt}
 use Rattle.rows.proofs.Insides.{inside_within}
 use Rattle.factorizer.specs.declared.Sides.{Sides}
-use Rattle.factorizer.specs.declared.Sides.TheVariants.{Split, Other}
 use Rattle.factorizer.specs.declared.Case.TheVariants.{Plain}
 use Rattle.factorizer.specs.Cases.{SeqAt, SidesTold, CaseTold}
 use Rattle.factorizer.proofs.Factors.{no_heads, no_tail, no_first, no_seqs}
@@ -24,12 +24,12 @@ seq_at v = record { head = v.left; tail = v.right; is = v.is; at_head = v.at_lef
 
 -- ---- what was told
 
-module _ {s : Sides} (w : List ℕ) (t : Bytes) (x : Expr Span) where
-  pub told_split : {a b : ℕ} → s ≡ Split a b → SidesTold s w t x → SeqAt w a b x
-  told_split e h = subst (λ (z : Sides). SidesTold z w t x) e h
+module _ {s : Option Sides} (w : List ℕ) (t : Bytes) (x : Expr Span) where
+  pub told_split : {v : Sides} → s ≡ Some v → SidesTold s w t x → SeqAt w v.head v.tail x
+  told_split e h = subst (λ (z : Option Sides). SidesTold z w t x) e h
 
-  pub told_other : s ≡ Other → SidesTold s w t x → as_seq (resolve t x) ≡ none
-  told_other e h = subst (λ (z : Sides). SidesTold z w t x) e h
+  pub told_other : s ≡ None → SidesTold s w t x → as_seq (resolve t x) ≡ none
+  told_other e h = subst (λ (z : Option Sides). SidesTold z w t x) e h
 
 -- a tree of the rows, with its literals in the text
 pub stands_in : {w : List ℕ} {i n : ℕ} {r : Expr Span} → Inside w n → At w i r → StandsIn w i n

@@ -1,4 +1,5 @@
 -- The row that ends a node, leaves, and what was told of a Choice. Assumes nothing.
+use Rattle.std.specs.Prelude.{None, Option, Some}
 use mathlib.Core.Path.{◌≡◌, refl, subst}
 use mathlib.Core.Bool.{Bool}
 use mathlib.Core.List.{List}
@@ -12,8 +13,6 @@ use Rattle.grammar.specs.Rows.{Span}
 use Rattle.grammar.specs.Text.{resolve}
 use Rattle.rows.proofs.Views.{shape_in}
 use Rattle.writing.specs.declared.Place.{Place}
-use Rattle.writing.specs.declared.Wrote.{Wrote}
-use Rattle.writing.specs.declared.Wrote.TheVariants.{Done, Full}
 use Rattle.writing.specs.Writes.{RowAnswer}
 use Rattle.writing.specs.Keeps.{Kept, KeptAnswer}
 use Rattle.writing.proofs.Keeps.{kept_un, kept_bin}
@@ -26,15 +25,15 @@ use Rattle.factorizer.proofs.Factors.{factored_other}
 
 -- ---- a node's own row ends it
 
-pub un_answer : (a : Wrote) {q p : Place} {e : E} {o o₁ t t₁ : List ℕ} (o₂ : List ℕ) (u : Un) → Kept q p e o o₁ t t₁ → {h : Head} → h ≡ un_head u → q.rows < length o₁ / row_width
+pub un_answer : (a : Option Place) {q p : Place} {e : E} {o o₁ t t₁ : List ℕ} (o₂ : List ℕ) (u : Un) → Kept q p e o o₁ t t₁ → {h : Head} → h ≡ un_head u → q.rows < length o₁ / row_width
     → RowAnswer a q h (q.rows - p.rows + 1) o₁ o₂ → KeptAnswer a p (un u e) o o₂ t t₁
-un_answer Full o₂ u w k r g = g r
-un_answer (Done a) o₂ u w k r g = kept_un w u _ _ k (omega (arith, w.rows)) g
+un_answer None o₂ u w k r g = g r
+un_answer (Some a) o₂ u w k r g = kept_un w u _ _ k (omega (arith, w.rows)) g
 
-pub bin_answer : (a : Wrote) {s q p : Place} {e f : E} {o o₁ o₂ t t₁ t₂ : List ℕ} (o₃ : List ℕ) (b : Bin) → Kept q p e o o₁ t t₁ → Kept s q f o₁ o₂ t₁ t₂ → {k : ℕ} → k ≡ bin_kind b → s.rows < length o₂ / row_width
+pub bin_answer : (a : Option Place) {s q p : Place} {e f : E} {o o₁ o₂ t t₁ t₂ : List ℕ} (o₃ : List ℕ) (b : Bin) → Kept q p e o o₁ t t₁ → Kept s q f o₁ o₂ t₁ t₂ → {k : ℕ} → k ≡ bin_kind b → s.rows < length o₂ / row_width
     → RowAnswer a s (k, 0, 0) (s.rows - p.rows + 1) o₂ o₃ → KeptAnswer a p (bin b e f) o o₃ t t₂
-bin_answer Full o₃ b w v k r g = g r
-bin_answer (Done a) o₃ b w v {k = h} k r g = kept_bin w v b (h, 0, 0) _ (rw k) (omega (arith, w.rows, v.rows)) g
+bin_answer None o₃ b w v k r g = g r
+bin_answer (Some a) o₃ b w v {k = h} k r g = kept_bin w v b (h, 0, 0) _ (rw k) (omega (arith, w.rows, v.rows)) g
 
 -- ---- leaves are as they were
 

@@ -1,5 +1,5 @@
 -- What is found out at a Choice of two subtrees x and y of the words w with the text t. Assumes nothing.
-use Rattle.std.specs.Prelude.{◌≡◌, Bool, true, List, ℕ}
+use Rattle.std.specs.Prelude.{◌≡◌, Bool, true, List, ℕ, None, Option, Some}
 use Rattle.std.proofs.Math.Option.{none}
 use Rattle.grammar.specs.Basic.{Bytes}
 use Rattle.grammar.specs.Tree.{Expr, Seq, Choice, bin, as_seq}
@@ -8,7 +8,6 @@ use Rattle.grammar.specs.Text.{resolve}
 use Rattle.grammar.specs.Steps.{factor?}
 use Rattle.rows.specs.Rows.{At}
 use Rattle.factorizer.specs.declared.Sides.{Sides}
-use Rattle.factorizer.specs.declared.Sides.TheVariants.{Split, Other}
 use Rattle.factorizer.specs.declared.Case.{Case}
 use Rattle.factorizer.specs.declared.Case.TheVariants.{Heads, Tail, First, Plain}
 
@@ -20,9 +19,9 @@ pub record SeqAt (w : List ℕ) (a b : ℕ) (x : Expr Span) : Type 0 where
   pub at_head : At w a head
   pub at_tail : At w b tail
 
-abbrev pub SidesTold : Sides → List ℕ → Bytes → Expr Span → Type 0
-SidesTold (Split a b) w t x = SeqAt w a b x
-SidesTold Other w t x = as_seq (resolve t x) ≡ none
+abbrev pub SidesTold : Option Sides → List ℕ → Bytes → Expr Span → Type 0
+SidesTold (Some s) w t x = SeqAt w s.head s.tail x
+SidesTold None w t x = as_seq (resolve t x) ≡ none
 
 -- (a~b)|(a~c)
 pub record HeadsTold (w : List ℕ) (t : Bytes) (a b c : ℕ) (x y : Expr Span) : Type 0 where

@@ -1,5 +1,7 @@
 -- The numbers of document 01 by name: widths, kinds, refusals (types stand in Table, full sizes in Refusals). src/lib.rt has them for code. Assumes nothing.
-use Rattle.std.specs.Prelude.{ℕ}
+use Rattle.std.specs.Prelude.{ℕ, Result, Ok, Err}
+use Rattle.grammar.specs.declared.Refusal.{Refusal}
+use Rattle.grammar.specs.declared.Refusal.TheVariants.{Area, Size, Shape, Text, Names, Count, Cycle, Full}
 
 -- "a rule is four words: name offset, name length, type, number of rows": the name begins at word 0
 abbrev pub rule_width : ℕ
@@ -119,3 +121,18 @@ refused_full = 8
 -- rows before and after each of the seven steps
 abbrev pub report_width : ℕ
 report_width = 14
+
+abbrev pub number_of : Refusal → ℕ
+number_of Area = refused_area
+number_of Size = refused_size
+number_of Shape = refused_shape
+number_of Text = refused_text
+number_of Names = refused_names
+number_of Count = refused_count
+number_of Cycle = refused_cycle
+number_of Full = refused_full
+
+-- the number that a result tells: 0 where nothing is refused
+abbrev pub number_in : {T : Type 0} → Result T Refusal → ℕ
+number_in (Ok v) = 0
+number_in (Err r) = number_of r

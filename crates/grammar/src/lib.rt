@@ -1,6 +1,9 @@
 // The numbers of document 01, for code; specs/Numbers.antt has them for definitions.
 #![tactic(auto)]
 
+ghost use Rattle.std.specs.Prelude.{◌≡◌};
+ghost use Rattle.grammar.specs.Numbers.{number_of};
+
 // A rule is so many words: where its name begins in the text, the name's length, its type, its number of rows.
 pub const RULE_WIDTH: usize = 4;
 
@@ -80,19 +83,23 @@ pub const PAIR: u32 = 4;
 // The last byte that a name or a literal may have.
 pub const LAST_ASCII: u32 = 127;
 
-// The refusals.
-pub const REFUSED_AREA: u32 = 1;
+// Why words are refused, by the numbers of document 01: the lowest that holds is the one that is told.
+#[derive(Clone, Copy, PartialEq, Eq)]
+pub enum Refusal {
+    Area = 1,
+    Size = 2,
+    Shape = 3,
+    Text = 4,
+    Names = 5,
+    Count = 6,
+    Cycle = 7,
+    Full = 8,
+}
 
-pub const REFUSED_SIZE: u32 = 2;
+impl From<Refusal> for u32 {
+    ghost from_gives = { λ r n. n ≡ number_of r };
 
-pub const REFUSED_SHAPE: u32 = 3;
-
-pub const REFUSED_TEXT: u32 = 4;
-
-pub const REFUSED_NAMES: u32 = 5;
-
-pub const REFUSED_COUNT: u32 = 6;
-
-pub const REFUSED_CYCLE: u32 = 7;
-
-pub const REFUSED_FULL: u32 = 8;
+    fn from(r: Refusal) -> u32 {
+        r as u32
+    }
+}

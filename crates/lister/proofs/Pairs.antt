@@ -1,4 +1,5 @@
 -- Two trees just written: as a table to compare in, and the node that ends them. Assumes nothing.
+use Rattle.std.specs.Prelude.{None, Option, Some}
 use mathlib.Core.Path.{◌≡◌, sym, ap, subst, ◌∙◌}
 use mathlib.Core.Bool.{Bool}
 use mathlib.Core.List.{List, ◌++◌, append_assoc}
@@ -14,8 +15,6 @@ use Rattle.grammar.proofs.Packing.{packed_size}
 use Rattle.rows.specs.Rows.{At, Tells, StandsIn}
 use Rattle.rows.proofs.Laws.{length_flat, size_pos}
 use Rattle.writing.specs.declared.Place.{Place}
-use Rattle.writing.specs.declared.Wrote.{Wrote}
-use Rattle.writing.specs.declared.Wrote.TheVariants.{Done, Full}
 use Rattle.writing.specs.Writes.{RowAnswer}
 use Rattle.writing.specs.Keeps.{KeptAnswer}
 use Rattle.writing.proofs.Runs.{take_stored}
@@ -89,11 +88,11 @@ module _ {p q s : Place} {e f : E} {o t : List ℕ} (h : Pair p q s e f o t) whe
       (subst (λ (z : E). Tells b (Loops (resolve t (packed p.text e)) z)) back_second (g _ _ at_first at_second))
 
   -- the node's own row
-  pub ended : (a : Wrote) (b : Bin) (n : ℕ) (o' : List ℕ) → n ≡ s.rows - p.rows + 1 → RowAnswer a s (bin_kind b, 0, 0) n o o' → KeptAnswer a p (bin b e f) o o' t t
-  ended Full b n o' m r = r h.room
-  ended (Done a) b n o' m r =
+  pub ended : (a : Option Place) (b : Bin) (o' : List ℕ) → RowAnswer a s (bin_kind b, 0, 0) (s.rows - p.rows + 1) o o' → KeptAnswer a p (bin b e f) o o' t t
+  ended None b o' r = r h.room
+  ended (Some a) b o' r =
       let l = length-append (text_of e) (text_of f) in
-      let z : n ≡ size (packed p.text e) + size (packed (p.text + length (text_of e)) f) + 1 = omega (arith, h.rows₁, h.rows₂, packed_size p.text e, packed_size (p.text + length (text_of e)) f) in
+      let z : s.rows - p.rows + 1 ≡ size (packed p.text e) + size (packed (p.text + length (text_of e)) f) + 1 = omega (arith, h.rows₁, h.rows₂, packed_size p.text e, packed_size (p.text + length (text_of e)) f) in
       record {
         rows = omega (arith, r.rows, h.rows₁, h.rows₂);
         text = r.text ∙ omega (arith, h.text₁, h.text₂);
@@ -130,14 +129,14 @@ module _ {p q s : Place} (x y f : E) {o t : List ℕ} (same : x ≡ f) (h : Pair
       let l : length (take (p.rows * row_width) o ++ ((a ++ b) ++ loop_rows)) ≡ q.rows * row_width = simp length-append (omega (arith, simp length-append at counts, h.rows₁)) in
       rw n (part_of o (take (p.rows * row_width) o ++ ((a ++ b) ++ loop_rows)) c (q.rows * row_width) (s.rows * row_width) (omega (arith, h.rows₂)) (h.words ∙ simp append_assoc) l)
 
-  pub ended_loop : (z : Wrote) (n m : ℕ) (o' : List ℕ) → n ≡ q.rows - p.rows - 1 → m ≡ s.rows - p.rows + 1 → MendedAnswer z s q.rows n m o o' → KeptAnswer z p (listed x y f) o o' t t
-  ended_loop Full n m o' e g r = r
-  ended_loop (Done z) n m o' e g r =
+  pub ended_loop : (z : Option Place) (o' : List ℕ) → MendedAnswer z s q.rows (q.rows - p.rows - 1) (s.rows - p.rows + 1) o o' → KeptAnswer z p (listed x y f) o o' t t
+  ended_loop None o' r = r
+  ended_loop (Some z) o' r =
       let d = P + length (text_of x) + length (text_of y) in
       let sx = ap size same in
       let k : q.text ≡ d = h.text₁ ∙ omega (arith, length-append (text_of x) (text_of y)) in
-      let n₁ : n ≡ size (packed (P + length (text_of x)) y) + size (packed d f) + 1 = omega (arith, h.rows₁, packed_size (P + length (text_of x)) y, packed_size d f) in
-      let m₁ : m ≡ size (packed P x) + (size (packed (P + length (text_of x)) y) + size (packed d f) + 1 + 1) + 1 = omega (arith, h.rows₁, h.rows₂, packed_size P x, packed_size (P + length (text_of x)) y, packed_size d f) in
+      let n₁ : q.rows - p.rows - 1 ≡ size (packed (P + length (text_of x)) y) + size (packed d f) + 1 = omega (arith, h.rows₁, packed_size (P + length (text_of x)) y, packed_size d f) in
+      let m₁ : s.rows - p.rows + 1 ≡ size (packed P x) + (size (packed (P + length (text_of x)) y) + size (packed d f) + 1 + 1) + 1 = omega (arith, h.rows₁, h.rows₂, packed_size P x, packed_size (P + length (text_of x)) y, packed_size d f) in
       record {
         rows = omega (arith, r.rows, h.rows₁, h.rows₂);
         text = r.text ∙ simp length-append (omega (arith, h.text₂));

@@ -1,26 +1,24 @@
 -- A subtree that was read is listed by what its children's calls answer. Assumes nothing.
+use Rattle.std.specs.Prelude.{None, Option, Some}
 use mathlib.Core.Path.{◌≡◌, refl, ap, ◌∙◌}
 use mathlib.Core.List.{List, ◌++◌, append_assoc}
-use Prim.Native.Nat.{ℕ, ◌-◌, ◌*◌, ◌/◌, ◌≤◌, ◌<◌}
+use Prim.Native.Nat.{ℕ, ◌*◌, ◌/◌, ◌≤◌, ◌<◌}
 use native.Mathlib.Omega.{arith}
 use lib.ListN.{length, take}
 use lib.Seq.{length-take-le}
 use Rattle.grammar.specs.Numbers.{row_width}
 use Rattle.grammar.specs.Basic.{Bytes}
-use Rattle.grammar.specs.Tree.{E, Expr, Bin, lit, fixed, skip, un, bin, bin_kind, size}
+use Rattle.grammar.specs.Tree.{E, Expr, Bin, lit, fixed, skip, un, bin, bin_kind}
 use Rattle.grammar.specs.Rows.{Span, flat}
 use Rattle.grammar.specs.Text.{resolve, text_of, packed}
 use Rattle.grammar.specs.Steps.{list, list?, or_same}
 use Rattle.rows.proofs.Views.{TwoView, shape_in}
 use Rattle.writing.specs.declared.Place.{Place}
-use Rattle.writing.specs.declared.Wrote.{Wrote}
-use Rattle.writing.specs.declared.Wrote.TheVariants.{Done, Full}
-use Rattle.writing.specs.Writes.{Fits}
-use Rattle.writing.specs.Keeps.{Kept, KeptAnswer, Ready}
-use Rattle.writing.proofs.Keeps.{right_fits, ready_right}
+use Rattle.writing.specs.Keeps.{Kept, KeptAnswer}
 use Rattle.chains.proofs.Walks.{Leaf}
+use Rattle.chains.proofs.Nodes.{Step, Both}
 use Rattle.lister.specs.Mends.{Pair}
-use Rattle.lister.proofs.Lists.{list_bin, list_size, list_text}
+use Rattle.lister.proofs.Lists.{list_un, list_bin, list_size, list_text}
 use Rattle.lister.proofs.Pairs.{front_of}
 
 -- ---- leaves are as they were
@@ -32,9 +30,6 @@ list_leaf t (fixed f) h = refl
 list_leaf t (skip ss) h = refl
 list_leaf t (un u e) h = absurd h
 list_leaf t (bin b l r) h = absurd h
-
-pub list_most : (e : E) → size (list e) ≤ size e
-list_most e = omega (arith, list_size e)
 
 -- ---- two children
 
@@ -65,25 +60,17 @@ module _ {p q s : Place} {e f : E} {o o₁ o₂ b b₁ b₂ : List ℕ} (w : Kep
   }
 
   -- what was there before is what was there at first
-  pub kept_before : (a : Wrote) (g : E) (o₃ : List ℕ) → KeptAnswer a p g o₂ o₃ b₂ b₂ → KeptAnswer a p g o o₃ b b₂
-  kept_before Full g o₃ h = h
-  kept_before (Done a) g o₃ h = record { rows = h.rows; text = h.text; words = h.words ∙ rw front_rows; bytes = h.bytes ∙ rw front_text }
+  pub kept_before : (a : Option Place) (g : E) (o₃ : List ℕ) → KeptAnswer a p g o₂ o₃ b₂ b₂ → KeptAnswer a p g o o₃ b b₂
+  kept_before None g o₃ h = h
+  kept_before (Some a) g o₃ h = record { rows = h.rows; text = h.text; words = h.words ∙ rw front_rows; bytes = h.bytes ∙ rw front_text }
 
-module _ (t : Bytes) {w : List ℕ} {i k x y n : ℕ} {r : Expr Span} (v : TwoView w i k x y n r) where
-  module _ {p q : Place} {o o₁ b b₁ : List ℕ} (c : Kept q p (list (resolve t v.left)) o o₁ b b₁) (lo : length o₁ ≡ length o) (lb : length b₁ ≡ length b) (f : Fits p (resolve t r) o b) where
-    pub right_ready : Ready w t (i - 1) q o₁ b₁
-    right_ready = ready_right t v c (list_most (resolve t v.left)) (omega (arith, ap length (list_text (resolve t v.left)))) lo lb f
+pub list_step : Step list
+list_step = record { over = list_un; rows = λ e. omega (arith, list_size e); text = λ e. omega (arith, ap length (list_text e)) }
 
-    module _ {s : Place} {o₂ b₂ : List ℕ} (d : Kept s q (list (resolve t v.right)) o₁ o₂ b₁ b₂) (lo₂ : length o₂ ≡ length o₁) (lb₂ : length b₂ ≡ length b₁) where
-      pub two_pair : Pair p q s (list (resolve t v.left)) (list (resolve t v.right)) o₂ b₂
-      two_pair =
-          let g : Fits p (bin v.op (resolve t v.left) (resolve t v.right)) o b = rw v.is at f in
-          let z = right_fits c (resolve t v.left) (list_most (resolve t v.left)) lo (omega (arith, ap length (list_text (resolve t v.left)))) lb g in
-          pair_of c d (omega (arith, g.rows)) (omega (arith, g.text))
-          (omega (arith, g.rows, c.rows, d.rows, list_size (resolve t v.left), list_size (resolve t v.right)))
-          (omega (arith, z.text, d.text, ap length (list_text (resolve t v.right))))
+module _ {t : Bytes} {w : List ℕ} {i k x y n : ℕ} {r : Expr Span} (v : TwoView w i k x y n r) {p q s : Place} {o o₁ o₂ b b₁ b₂ : List ℕ} (h : Both list t q p s v.left v.right o o₁ o₂ b b₁ b₂) where
+  pub two_pair : Pair p q s (list (resolve t v.left)) (list (resolve t v.right)) o₂ b₂
+  two_pair = pair_of h.first h.second h.rows h.text h.room h.end
 
-      pub list_two : (a : Wrote) (o₃ : List ℕ) → ((e : Bin) (g h : E) → k ≡ bin_kind e → Pair p q s g h o₂ b₂ → KeptAnswer a p (or_same list? (bin e g h)) o₂ o₃ b₂ b₂) → KeptAnswer a p (list (resolve t r)) o o₃ b b₂
-      list_two a o₃ h =
-          let g : Fits p (bin v.op (resolve t v.left) (resolve t v.right)) o b = rw v.is at f in
-          rw (v.is, list_bin) (kept_before c d (omega (arith, g.rows)) (omega (arith, g.text)) a _ o₃ (h v.op _ _ v.kind two_pair))
+  pub two_kept : {kind : ℕ} → kind ≡ k → (a : Option Place) (o₃ : List ℕ) → ((e : Bin) (g f : E) → kind ≡ bin_kind e → Pair p q s g f o₂ b₂ → KeptAnswer a p (or_same list? (bin e g f)) o₂ o₃ b₂ b₂)
+      → KeptAnswer a p (list (resolve t r)) o o₃ b b₂
+  two_kept e a o₃ g = rw (v.is, list_bin) (kept_before h.first h.second h.rows h.text a _ o₃ (g v.op _ _ (e ∙ v.kind) two_pair))

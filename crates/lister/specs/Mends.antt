@@ -1,12 +1,10 @@
 -- Two trees that were just written one after the other, and rows moved past them. Assumes nothing.
-use Rattle.std.specs.Prelude.{◌≡◌, List, ◌++◌, ℕ, ◌+◌, ◌-◌, ◌*◌, ◌/◌, ◌≤◌, ◌<◌, length, take, drop}
+use Rattle.std.specs.Prelude.{◌≡◌, List, ◌++◌, ℕ, ◌+◌, ◌-◌, ◌*◌, ◌/◌, ◌≤◌, ◌<◌, length, take, drop, None, Option, Some}
 use Rattle.grammar.specs.Numbers.{row_width, k_seq, k_rep}
 use Rattle.grammar.specs.Tree.{E, size}
 use Rattle.grammar.specs.Rows.{row, flat}
 use Rattle.grammar.specs.Text.{text_of, packed}
 use Rattle.writing.specs.declared.Place.{Place}
-use Rattle.writing.specs.declared.Wrote.{Wrote}
-use Rattle.writing.specs.declared.Wrote.TheVariants.{Done, Full}
 use Rattle.writing.specs.Writes.{Areas}
 
 -- the packed trees e and f stand from p to q and from q to s, and there is room for a row more
@@ -39,6 +37,6 @@ pub record Mended (a s : Place) (from n m : ℕ) (o o' : List ℕ) : Type 0 wher
   pub text : a.text ≡ s.text
   pub words : take (a.rows * row_width) o' ≡ take ((from - 2) * row_width) o ++ (take ((s.rows - from) * row_width) (drop (from * row_width) o) ++ (row (k_seq, 0, 0) n ++ (row (k_rep, 0, 0) (n + 1) ++ row (k_seq, 0, 0) m)))
 
-abbrev pub MendedAnswer : Wrote → Place → ℕ → ℕ → ℕ → List ℕ → List ℕ → Type 0
-MendedAnswer (Done a) s from n m o o' = Mended a s from n m o o'
-MendedAnswer Full s from n m o o' = ⊥
+abbrev pub MendedAnswer : Option Place → Place → ℕ → ℕ → ℕ → List ℕ → List ℕ → Type 0
+MendedAnswer (Some a) s from n m o o' = Mended a s from n m o o'
+MendedAnswer None s from n m o o' = ⊥

@@ -1,7 +1,7 @@
 // List, over a whole subtree: (a~b)* ~ a becomes a ~ (b~a)*.
 #![tactic(auto)]
 
-ghost use Rattle.std.specs.Prelude.{◌≡◌, false, ◌+◌, ◌-◌, ◌*◌, ◌^◌, ◌≤◌, ◌<◌, length, take, drop};
+ghost use Rattle.std.specs.Prelude.{◌≡◌, false, ◌+◌, ◌^◌, ◌≤◌, ◌<◌, length, take, drop};
 ghost use Rattle.std.proofs.Math.Option.{none};
 ghost use Rattle.grammar.specs.Numbers.{k_seq};
 ghost use Rattle.grammar.specs.Tree.{Expr, E, Bin, bin, bin_kind};
@@ -15,22 +15,19 @@ ghost use Rattle.lister.specs.Loops.{Loops};
 ghost use Rattle.lister.specs.Mends.{Pair, Pairs, Movable, MendedAnswer};
 
 use grammar::{REP, ROW_WIDTH, SEQ};
-use writing::{Place, Wrote};
+use writing::Place;
 
-// Copies n words down, from `from` to `to`; the two runs may overlap.
+// Copies n words down, from `from` to `to`; the two runs may overlap. Never inlined: `list` keeps a small frame.
+#[inline(never)]
 fn move_down(out: &mut [u32], to: usize, from: usize, n: usize)
     requires { (to ≤ from) × (from + n ≤ length out.old) }
     ensures { out.new ≡ stored out.old to (take n (drop from out.old)) }
 {
-    let mut i = 0;
-    while i < n {
-        out[to + i] = out[from + i];
-        i += 1;
-    }
+    out.copy_within(from..from + n, to);
 }
 
 // Moves the rows from `from` to s up past the two rows before them, which come after them anew, and ends a Seq of m rows.
-fn mend(out: &mut [u32], from: usize, s: Place, n: u32, m: u32) -> Wrote
+fn mend(out: &mut [u32], from: usize, s: Place, n: u32, m: u32) -> Option<Place>
     requires movable { Movable from s.rows out.old }
     requires n_bound { n + 1 < 2 ^ 32 }
     ensures { MendedAnswer result s from n m out.old out.new }
@@ -53,32 +50,28 @@ fn loops(rows: &[u32], text: &[u8], i: usize, j: usize) -> bool
     requires stands_in_2 { StandsIn rows.now j (length text.now) }
     ensures { (l r : Expr Span) → At rows.now i l → At rows.now j r → Tells result (Loops (resolve text.now l) (resolve text.now r)) }
 {
-    if rows[i * ROW_WIDTH] != REP {
+    if rows::kind_at(rows, i) != REP {
         return false;
     }
     let body = i - 1;
-    if rows[body * ROW_WIDTH] != SEQ {
+    if rows::kind_at(rows, body) != SEQ {
         return false;
     }
     rows::same_tree(rows, text, rows::left_of(rows, body), rows, text, j)
 }
 
 // Ends a node of two children that stand from p to q and from q to s.
-fn finish(out: &mut [u32], lits: &[u8], p: Place, q: Place, s: Place, kind: u32) -> Wrote
+fn finish(out: &mut [u32], lits: &[u8], p: Place, q: Place, s: Place, kind: u32) -> Option<Place>
     requires { Pairs p q s out.old lits.now }
     ensures { (b : Bin) (e f : E) → kind ≡ bin_kind b → Pair p q s e f out.old lits.now → KeptAnswer result p (or_same list? (bin b e f)) out.old out.new lits.now lits.now }
 {
-    let from = q.rows;
-    let end = s.rows;
-    let size = (end - p.rows + 1) as u32;
-    if kind != SEQ {
-        return writing::put_row(out, s, kind, 0, 0, size);
-    }
-    if loops(out, lits, from - 1, end - 1) {
+    if kind == SEQ && loops(out, lits, q.rows - 1, s.rows - 1) {
         // the loop's two rows count what they did: a is as large as the tree that follows
-        return mend(out, from, s, (from - p.rows - 1) as u32, size);
+        let n = q.rows - p.rows - 1;
+        let m = s.rows - p.rows + 1;
+        return mend(out, q.rows, s, n as u32, m as u32);
     }
-    writing::put_row(out, s, SEQ, 0, 0, size)
+    writing::put_over(out, p, s, kind, 0, 0)
 }
 
 // Whether the Seq of row i begins with a loop that is listed.
@@ -89,11 +82,8 @@ pub fn fires(rows: &[u32], text: &[u8], i: usize) -> bool
     ensures { result ≡ false → (x : Expr Span) → At rows.now i x → list? (resolve text.now x) ≡ none }
 {
     let left = rows::left_of(rows, i);
-    // nearly every Seq, and no call
-    if rows[left * ROW_WIDTH] != REP {
-        return false;
-    }
-    loops(rows, text, left, i - 1)
+    // nearly every Seq begins with none, and needs no call
+    rows::kind_at(rows, left) == REP && loops(rows, text, left, i - 1)
 }
 
 // Writes the listed subtree of row `root` at p, its literals packed: its children first, then its own row or what they are listed as.
@@ -104,7 +94,7 @@ pub fn list(
     out: &mut [u32],
     lits: &mut [u8],
     p: Place,
-) -> Wrote
+) -> Option<Place>
     requires inside { Inside rows.now (length text.now) }
     requires ready { Ready rows.now text.now root p out.old lits.old }
     requires areas { Areas out.old lits.old }
@@ -114,8 +104,9 @@ pub fn list(
     if !chains::forks(rows, base) {
         return writing::keep(rows, text, root, out, lits, p);
     }
-    let q = chains::ended(list(rows, text, rows::left_of(rows, base), out, lits, p));
-    let s = chains::ended(list(rows, text, base - 1, out, lits, q));
-    let e = chains::ended(finish(out, lits, p, q, s, rows[base * ROW_WIDTH]));
+    let left = rows::left_of(rows, base);
+    let q = list(rows, text, left, out, lits, p).unwrap();
+    let s = list(rows, text, base - 1, out, lits, q).unwrap();
+    let e = finish(out, lits, p, q, s, rows::kind_at(rows, base)).unwrap();
     chains::raise(rows, base, root, out, p, e)
 }

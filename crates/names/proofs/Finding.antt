@@ -1,4 +1,5 @@
 -- What a search by name finds is what `find` finds in the table, and where a rule's tree stands. Assumes nothing.
+use Rattle.std.specs.Prelude.{None, Option as Option', Some}
 use mathlib.Core.Path.{◌≡◌, refl, sym, ap, ◌∙◌}
 use mathlib.Core.Bool.{Bool, true, false}
 use mathlib.Core.List.{List, [], ◌∷◌, ◌++◌, append_assoc}
@@ -18,8 +19,6 @@ use Rattle.rows.specs.Rows as rows
 use Rattle.rows.proofs.Laws.{length_flat, size_pos}
 use Rattle.names.specs.Names.{name_of, rows_before, NamesInside, AllIndexed, First, Finds}
 use Rattle.names.proofs.Index.{index_named}
-use Rattle.names.specs.declared.Found.{Found}
-use Rattle.names.specs.declared.Found.TheVariants.{At, Nothing}
 
 -- ---- the words of rule i
 
@@ -127,13 +126,13 @@ module _ (text key : Bytes) where
     body_of none = none
     body_of (some r) = some (resolve text r.body)
 
-    abbrev pub found_body : Found → Option E
-    found_body (At i) = body_of (get_elem? t i)
-    found_body Nothing = none
+    abbrev pub found_body : Option' ℕ → Option E
+    found_body (Some i) = body_of (get_elem? t i)
+    found_body None = none
 
-    pub find_is : (rules : List ℕ) (f : Found) → rule_words t ≡ rules → Finds (length rules / rule_width) rules text key f → find (resolve_table text t) key ≡ found_body f
-    find_is rules (At i) e h = let l : Looked i = looked i (rw (← e) at h) in l.finds ∙ ap body_of (sym l.is)
-    find_is rules Nothing e h = not_found (rw (← e) at h)
+    pub find_is : (rules : List ℕ) (f : Option' ℕ) → rule_words t ≡ rules → Finds (length rules / rule_width) rules text key f → find (resolve_table text t) key ≡ found_body f
+    find_is rules (Some i) e h = let l : Looked i = looked i (rw (← e) at h) in l.finds ∙ ap body_of (sym l.is)
+    find_is rules None e h = not_found (rw (← e) at h)
 
 -- ---- where a rule's tree stands
 

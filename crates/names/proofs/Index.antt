@@ -1,4 +1,5 @@
 -- The index of names: halves of marks, ways through it, and what one more rule changes. Assumes nothing.
+use Rattle.std.specs.Prelude.{None, Option, Some}
 use mathlib.Core.Path.{◌≡◌, refl, sym, ap, ◌∙◌}
 use mathlib.Core.Bool.{Bool, true, false, cond}
 use mathlib.Core.List.{List}
@@ -17,8 +18,6 @@ use Rattle.grammar.specs.Text.{bytes_at}
 use Rattle.rows.specs.Rows.{Tells}
 use Rattle.rows.proofs.Cells.{tells_yes, tells_no}
 use Rattle.names.specs.Names.{name_of, rows_before, hash_from, last_bytes, bucket_of, half_at, with_half, symbol_at, onward, marked, with_ends, NamesInside, Slot, Way, stay, step, Ends, Leads, Shaped, Indexed, Walkable, AllIndexed, Twice, ApartAnswer, First, ways_word, halves, if_not, if_so, half_size, few_rules, stride}
-use Rattle.names.specs.declared.Apart.{Apart}
-use Rattle.names.specs.declared.Apart.TheVariants.{Position, Nowhere}
 use Rattle.names.proofs.Marks.{length_marked, marked_other, marked_at}
 
 -- ---- halves
@@ -541,19 +540,19 @@ module _ {rules : List ℕ} {text : Bytes} {m : List ℕ} {i s : ℕ} (h : Index
     index_fork q = rw (q, add-one) all_forked
 
   -- what was read of rule j's name and of rule i's, and told of them
-  module _ {j o p o' p' : ℕ} (a : Apart) (z : j ≡ half_at m s) (b : j < n) (ho : o ≡ get_or rules (j * rule_width) 0) (hp : p ≡ get_or rules (j * rule_width + length_word) 0) (ho' : o' ≡ get_or rules (i * rule_width) 0) (hp' : p' ≡ get_or rules (i * rule_width + length_word) 0)
+  module _ {j o p o' p' : ℕ} (a : Option ℕ) (z : j ≡ half_at m s) (b : j < n) (ho : o ≡ get_or rules (j * rule_width) 0) (hp : p ≡ get_or rules (j * rule_width + length_word) 0) (ho' : o' ≡ get_or rules (i * rule_width) 0) (hp' : p' ≡ get_or rules (i * rule_width + length_word) 0)
       (t : ApartAnswer a (length text) (bytes_at text (o, p)) (bytes_at text (o', p'))) where
     told : ApartAnswer a (length text) (name j) (name i)
     told = rw (ho, hp, ho', hp') at t
 
-    pub told_same : a ≡ Nowhere → Twice rules text
+    pub told_same : a ≡ None → Twice rules text
     told_same q = twice z b (rw q at told)
 
-    pub told_below : {d : ℕ} → a ≡ Position d → d < length text
-    told_below q = let x : ApartAnswer (Position _) (length text) (name j) (name i) = rw q at told in x.0
+    pub told_below : {d : ℕ} → a ≡ Some d → d < length text
+    told_below q = let x : ApartAnswer (Some _) (length text) (name j) (name i) = rw q at told in x.0
 
-    pub told_apart : {d : ℕ} {m' : List ℕ} → a ≡ Position d → length text ≤ half_size → m' ≡ with_half (with_half (with_half (with_half m (i * halves) d) (i * halves + if_not) j) (i * halves + if_so) i) s (n + i) → Indexed (i + 1) rules text m'
-    told_apart {d} q f w = let x : ApartAnswer (Position d) (length text) (name j) (name i) = rw q at told in index_fork z b (omega (arith, x.0)) x.1 w
+    pub told_apart : {d : ℕ} {m' : List ℕ} → a ≡ Some d → length text ≤ half_size → m' ≡ with_half (with_half (with_half (with_half m (i * halves) d) (i * halves + if_not) j) (i * halves + if_so) i) s (n + i) → Indexed (i + 1) rules text m'
+    told_apart {d} q f w = let x : ApartAnswer (Some d) (length text) (name j) (name i) = rw q at told in index_fork z b (omega (arith, x.0)) x.1 w
 
 -- ---- none yet, all
 

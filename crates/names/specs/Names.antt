@@ -1,13 +1,9 @@
 -- Names of rules given as words, their marks, and which rule a search finds. Assumes nothing.
-use Rattle.std.specs.Prelude.{◌≡◌, Bool, true, false, cond, List, [], ◌∷◌, ℕ, zero, suc, ◌+◌, ◌-◌, ◌*◌, ◌/◌, ◌%◌, ◌^◌, ◌<◌, ◌≤◌, eqb, ltb, length, get_or, set, drop}
+use Rattle.std.specs.Prelude.{◌≡◌, Bool, true, false, cond, List, [], ◌∷◌, ℕ, zero, suc, ◌+◌, ◌-◌, ◌*◌, ◌/◌, ◌%◌, ◌^◌, ◌<◌, ◌≤◌, eqb, ltb, length, get_or, set, drop, None, Option, Some}
 use Rattle.grammar.specs.Numbers.{rule_width, length_word, rows_word, mark_width}
 use Rattle.grammar.specs.Basic.{Bytes}
 use Rattle.grammar.specs.Rows.{Span}
 use Rattle.grammar.specs.Text.{bytes_at}
-use Rattle.names.specs.declared.Found.{Found}
-use Rattle.names.specs.declared.Found.TheVariants.{At, Nothing}
-use Rattle.names.specs.declared.Apart.{Apart}
-use Rattle.names.specs.declared.Apart.TheVariants.{Position, Nowhere}
 
 -- the words of a mark: the index of names has word 0 and word 2, the phase that runs word 1, and word 3 is the row after the rule's last
 abbrev pub memory_word : ℕ
@@ -159,9 +155,9 @@ pub record NamesAnswer (b : Bool) (rules : List ℕ) (text : Bytes) (marks : Lis
   pub no : b ≡ false → Twice rules text
 
 -- two names in a text of n bytes differ at a position, or are the same
-abbrev pub ApartAnswer : Apart → ℕ → Bytes → Bytes → Type 0
-ApartAnswer (Position d) n a b = (d < n) × (symbol_at a d ≡ symbol_at b d → ⊥)
-ApartAnswer Nowhere n a b = a ≡ b
+abbrev pub ApartAnswer : Option ℕ → ℕ → Bytes → Bytes → Type 0
+ApartAnswer (Some d) n a b = (d < n) × (symbol_at a d ≡ symbol_at b d → ⊥)
+ApartAnswer None n a b = a ≡ b
 
 -- word 3 of each rule's mark is the row after its last row
 pub record Ended (rules marks : List ℕ) : Type 0 where
@@ -174,9 +170,9 @@ pub record First (m : ℕ) (rules : List ℕ) (text key : Bytes) (i : ℕ) : Typ
   pub first : (j : ℕ) → j < i → name_of rules text j ≡ key → ⊥
 
 -- what a search for the name key among the first m rules finds
-abbrev pub Finds : ℕ → List ℕ → Bytes → Bytes → Found → Type 0
-Finds m rules text key (At i) = First m rules text key i
-Finds m rules text key Nothing = (j : ℕ) → j < m → name_of rules text j ≡ key → ⊥
+abbrev pub Finds : ℕ → List ℕ → Bytes → Bytes → Option ℕ → Type 0
+Finds m rules text key (Some i) = First m rules text key i
+Finds m rules text key None = (j : ℕ) → j < m → name_of rules text j ≡ key → ⊥
 
 -- key is the name of a rule
 pub record IsName (rules : List ℕ) (text key : Bytes) : Type 0 where

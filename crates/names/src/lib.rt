@@ -14,27 +14,12 @@ ghost use Rattle.rows.specs.Rows.{Tells};
 ghost use Rattle.names.specs.Names.{name_of, rows_before, hash_from, last_bytes, bucket_of, half_at, with_half, symbol_at, onward, marked, with_ends, NamesInside, Ends, Indexed, Walkable, AllIndexed, IndexAnswer, NamesAnswer, ApartAnswer, First, Finds, IsName, halves, if_not, if_so, half_size, few_rules, memory_word, ways_word};
 
 use grammar::{LENGTH, MARK_WIDTH, ROWS, RULE_WIDTH};
-use rows::wide;
-
-// What a search by name finds.
-#[derive(Clone, Copy)]
-pub enum Found {
-    At(usize),
-    Nothing,
-}
 
 // A slot of the index, and what it holds.
 #[derive(Clone, Copy)]
 struct Spot {
     slot: usize,
     holds: usize,
-}
-
-// Where two names differ.
-#[derive(Clone, Copy)]
-enum Apart {
-    Position(usize),
-    Nowhere,
 }
 
 // So many of a name's last bytes count for its bucket.
@@ -77,10 +62,8 @@ fn hash_bytes(text: &[u8], x: usize, n: usize, seed: usize) -> usize
     ensures { result ≡ hash_from (seed % 2 ^ 32) (bytes_at text.now (x, n)) }
 {
     let mut h = seed % WORD;
-    let mut i = 0;
-    while i < n {
+    for i in 0..n {
         h = (h * SPREAD + byte(text[x + i])) % WORD;
-        i += 1;
     }
     h
 }
@@ -89,7 +72,7 @@ fn hash_bytes(text: &[u8], x: usize, n: usize, seed: usize) -> usize
 fn last_from(n: usize) -> usize
     ensures { result ≡ n - last_bytes }
 {
-    if LAST < n { n - LAST } else { 0 }
+    n.saturating_sub(LAST)
 }
 
 // The bucket of the name of n bytes at x, of `count` buckets.
@@ -160,12 +143,10 @@ fn same_symbol(text1: &[u8], x: usize, n: usize, text2: &[u8], y: usize, m: usiz
     ensures { Tells result (symbol_at (bytes_at text1.now (x, n)) d ≡ symbol_at (bytes_at text2.now (y, m)) d) }
 {
     if d < n {
-        if d < m {
-            return text1[x + d] == text2[y + d];
-        }
-        return false;
+        d < m && text1[x + d] == text2[y + d]
+    } else {
+        m <= d
     }
-    m <= d
 }
 
 // The slot that the name of n bytes at x of another text goes on with at node k, and what it holds.
@@ -187,8 +168,8 @@ fn go_on(
     let d = half(marks, k * HALVES);
     if same_symbol(
         text,
-        wide(rules[at]),
-        wide(rules[at + LENGTH]),
+        rules[at] as usize,
+        rules[at + LENGTH] as usize,
         text2,
         x,
         n,
@@ -232,22 +213,18 @@ fn spot_of(rules: &[u32], text: &[u8], marks: &[u32], text2: &[u8], x: usize, n:
 }
 
 // Where two names of n and m bytes at x and y differ. Where their lengths do, no byte is looked at.
-fn tell_apart(text: &[u8], x: usize, n: usize, y: usize, m: usize) -> Apart
+fn tell_apart(text: &[u8], x: usize, n: usize, y: usize, m: usize) -> Option<usize>
     requires { (x + n ≤ length text.now) × (y + m ≤ length text.now) }
     ensures { ApartAnswer result (length text.now) (bytes_at text.now (x, n)) (bytes_at text.now (y, m)) }
 {
     if n < m {
-        return Apart::Position(n);
+        return Some(n);
     }
     if m < n {
-        return Apart::Position(m);
+        return Some(m);
     }
     let d = rows::first_unlike(text, x, text, y, n);
-    if d < n {
-        Apart::Position(d)
-    } else {
-        Apart::Nowhere
-    }
+    if d < n { Some(d) } else { None }
 }
 
 // Makes rule i's node, which tells its name from rule j's at position d, and puts it where rule j was found, in `slot`.
@@ -275,13 +252,13 @@ fn beside(rules: &[u32], text: &[u8], marks: &mut [u32], slot: usize, i: usize, 
     let to = j * RULE_WIDTH;
     match tell_apart(
         text,
-        wide(rules[to]),
-        wide(rules[to + LENGTH]),
-        wide(rules[at]),
-        wide(rules[at + LENGTH]),
+        rules[to] as usize,
+        rules[to + LENGTH] as usize,
+        rules[at] as usize,
+        rules[at + LENGTH] as usize,
     ) {
-        Apart::Nowhere => false,
-        Apart::Position(d) => {
+        None => false,
+        Some(d) => {
             fork(marks, rules.len() / RULE_WIDTH, slot, i, j, d);
             true
         }
@@ -301,8 +278,8 @@ fn index_name(rules: &[u32], text: &[u8], marks: &mut [u32], i: usize) -> bool
         text,
         marks,
         text,
-        wide(rules[at]),
-        wide(rules[at + LENGTH]),
+        rules[at] as usize,
+        rules[at + LENGTH] as usize,
     );
     let slot = s.slot;
     let j = s.holds;
@@ -318,10 +295,8 @@ fn fill(count: usize, marks: &mut [u32], j: usize, v: u32)
     requires { (count * mark_width ≤ length marks.old) × (j < mark_width) }
     ensures { marks.new ≡ marked (λ _. v) j count marks.old }
 {
-    let mut i = 0;
-    while i < count {
+    for i in 0..count {
         marks[i * MARK_WIDTH + j] = v;
-        i += 1;
     }
 }
 
@@ -353,12 +328,10 @@ pub fn index_names(rules: &[u32], text: &[u8], marks: &mut [u32]) -> bool
 {
     let count = rules.len() / RULE_WIDTH;
     clear(rules, text, marks);
-    let mut i = 0;
-    while i < count {
+    for i in 0..count {
         if !index_name(rules, text, marks, i) {
             return false;
         }
-        i += 1;
     }
     true
 }
@@ -371,11 +344,9 @@ pub fn mark_ends(rules: &[u32], marks: &mut [u32])
 {
     let count = rules.len() / RULE_WIDTH;
     let mut end: u32 = 0;
-    let mut i = 0;
-    while i < count {
+    for i in 0..count {
         end += rules[i * RULE_WIDTH + ROWS];
         marks[i * MARK_WIDTH + END] = end;
-        i += 1;
     }
 }
 
@@ -387,10 +358,7 @@ pub fn has_name(rules: &[u32], text: &[u8], i: usize, text2: &[u8], x: usize, n:
     ensures { Tells result (name_of rules.now text.now i ≡ bytes_at text2.now (x, n)) }
 {
     let at = i * RULE_WIDTH;
-    if wide(rules[at + LENGTH]) != n {
-        return false;
-    }
-    rows::same_bytes(text, wide(rules[at]), text2, x, n)
+    rules[at + LENGTH] as usize == n && rows::same_bytes(text, rules[at] as usize, text2, x, n)
 }
 
 // The rule with the name of n bytes at x of another text.
@@ -401,23 +369,23 @@ pub fn find_rule(
     text2: &[u8],
     x: usize,
     n: usize,
-) -> Found
+) -> Option<usize>
     requires all_indexed { AllIndexed rules.now text.now marks.now }
     requires n_in_bounds { x + n ≤ length text2.now }
     ensures { Finds (length rules.now / rule_width) rules.now text.now (bytes_at text2.now (x, n)) result }
 {
     let count = rules.len() / RULE_WIDTH;
     if count == 0 {
-        return Found::Nothing;
+        return None;
     }
     let i = spot_of(rules, text, marks, text2, x, n).holds;
     if i == count {
-        return Found::Nothing;
+        return None;
     }
     if has_name(rules, text, i, text2, x, n) {
-        Found::At(i)
+        Some(i)
     } else {
-        Found::Nothing
+        None
     }
 }
 
@@ -443,10 +411,7 @@ fn is_name(text: &[u8], x: usize, n: usize, name: &[u8]) -> bool
     requires { x + n ≤ length text.now }
     ensures { result ≡ same_bytes (bytes_at text.now (x, n)) name.now }
 {
-    if n != name.len() {
-        return false;
-    }
-    rows::same_bytes(text, x, name, 0, n)
+    n == name.len() && rows::same_bytes(text, x, name, 0, n)
 }
 
 // Whether a name is ANY.
@@ -462,10 +427,7 @@ pub fn changes_stack(text: &[u8], x: usize, n: usize) -> bool
     requires { x + n ≤ length text.now }
     ensures { result ≡ member (bytes_at text.now (x, n)) stack_names }
 {
-    if is_name(text, x, n, b"DROP") {
-        return true;
-    }
-    is_name(text, x, n, b"POP")
+    is_name(text, x, n, b"DROP") || is_name(text, x, n, b"POP")
 }
 
 // Whether a name is kept from rules: ANY, and the names that change the stack.
@@ -473,8 +435,5 @@ pub fn reserved(text: &[u8], x: usize, n: usize) -> bool
     requires { x + n ≤ length text.now }
     ensures { result ≡ member (bytes_at text.now (x, n)) refusals.reserved }
 {
-    if is_any(text, x, n) {
-        return true;
-    }
-    changes_stack(text, x, n)
+    is_any(text, x, n) || changes_stack(text, x, n)
 }

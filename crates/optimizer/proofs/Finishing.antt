@@ -1,4 +1,5 @@
 -- From what the steps left to the whole answer. Assumes nothing.
+use Rattle.std.specs.Prelude.{Option, Some, None, Result, Ok, Err, ok_or}
 use mathlib.Core.Path.{◌≡◌, refl, sym, ap, ap₂, ◌∙◌, subst}
 use mathlib.Core.Bool.{true, false}
 use mathlib.Core.List.{List, [], ◌∷◌, ◌++◌, map}
@@ -8,9 +9,11 @@ use borrow.Author.Tests.{ltb-false}
 use lib.ListN.{length, take}
 use lib.Seq.{take-append-le}
 use lib.Dec.{ltb}
-use Rattle.grammar.specs.Numbers.{rule_width, row_width}
+use Rattle.grammar.specs.Numbers.{rule_width, row_width, number_of, number_in}
+use Rattle.grammar.specs.declared.Refusal.{Refusal}
+use Rattle.grammar.specs.declared.Refusal.TheVariants.{Area, Size, Shape, Text, Names, Count, Cycle, Full}
 use Rattle.grammar.specs.Basic.{Bytes, any}
-use Rattle.grammar.specs.Table.{Table, Words, row_count, table_text, resolve_table, words_of}
+use Rattle.grammar.specs.Table.{Table, row_count, table_text, resolve_table, words_of}
 use Rattle.grammar.specs.Refusals.{max_rows, max_text, full_rules, too_large}
 use Rattle.grammar.specs.Optimize as whole
 use Rattle.grammar.specs.Optimize.{stages, pairs, last_of, finish, answer, over}
@@ -23,20 +26,52 @@ use Rattle.passes.proofs.Progress.{rows_length}
 use Rattle.packing.specs.Packing.{Covers}
 use Rattle.admission.specs.Ready.{Ready}
 use Rattle.admission.proofs.Trying.{resolved_count}
-use Rattle.turns.specs.Chain.{Ran, SevenAnswer, all_seven}
-use Rattle.optimizer.specs.Entry.{seen, AtLeast, Small}
+use Rattle.turns.specs.Chain.{Ran, SevenAnswer, rows_in, all_seven}
+use Rattle.optimizer.specs.Entry.{seen, AtLeast, Small, Said}
 use Rattle.optimizer.specs.declared.Answer.{Answer}
 use Rattle.turns.specs.declared.Seven.{Seven}
-use Rattle.turns.specs.declared.Seven.TheVariants as seven
 use Rattle.turns.proofs.Fronts.{front_within}
 use Rattle.turns.proofs.Asking.{stages_are}
 use Rattle.turns.proofs.Runs.{ready_lent, restored_count}
 
-pub seven_done : {a : Seven} {i j k l m n : ℕ} {q : Place} (ts : List (Table Bytes)) (os o s : List ℕ) → a ≡ seven.Done i j k l m n q → SevenAnswer a ts os o s → Ran (i ∷ j ∷ k ∷ l ∷ m ∷ n ∷ q.rows ∷ []) q ts os o s
-seven_done ts os o s e h = subst (λ (a : Seven). SevenAnswer a ts os o s) e h
+pub seven_done : {a : Option Seven} {b : Seven} (ts : List (Table Bytes)) (os o s : List ℕ) → a ≡ Some b → SevenAnswer a ts os o s → Ran (rows_in b) b.place ts os o s
+seven_done ts os o s e h = subst (λ (a : Option Seven). SevenAnswer a ts os o s) e h
 
-pub seven_full : {a : Seven} (ts : List (Table Bytes)) (os o s : List ℕ) → a ≡ seven.Full → SevenAnswer a ts os o s → any too_large ts ≡ true
-seven_full ts os o s e h = subst (λ (a : Seven). SevenAnswer a ts os o s) e h
+pub seven_full : {a : Option Seven} (ts : List (Table Bytes)) (os o s : List ℕ) → a ≡ None → SevenAnswer a ts os o s → any too_large ts ≡ true
+seven_full ts os o s e h = subst (λ (a : Option Seven). SevenAnswer a ts os o s) e h
+
+-- an answer that was turned into a result
+module _ {A E : Type 0} where
+  abbrev value_in : Option A → Result A E → Option A
+  value_in d (Ok u) = Some u
+  value_in d (Err r) = d
+
+  abbrev error_in : E → Result A E → E
+  error_in d (Ok u) = d
+  error_in d (Err q) = q
+
+  pub or_some : (x : Option A) (e : E) {v : A} → ok_or x e ≡ Ok v → x ≡ Some v
+  or_some (Some w) e h = ap (value_in (Some w)) h
+  or_some None e h = let z : ◌≡◌ {A = ℕ} 0 1 = cc in absurd (omega arith)
+
+  pub or_none : (x : Option A) (e : E) {r : E} → ok_or x e ≡ Err r → (x ≡ None) × (r ≡ e)
+  or_none (Some w) e h = let z : ◌≡◌ {A = ℕ} 0 1 = cc in absurd (omega arith)
+  or_none None e {r} h = (refl, ap (error_in r) (sym h))
+
+-- every refusal has a number
+number_some : (r : Refusal) → number_of r ≡ 0 → ⊥
+number_some Area h = omega arith
+number_some Size h = omega arith
+number_some Shape h = omega arith
+number_some Text h = omega arith
+number_some Names h = omega arith
+number_some Count h = omega arith
+number_some Cycle h = omega arith
+number_some Full h = omega arith
+
+-- a result that refuses tells its refusal's number
+pub refused_told : {T : Type 0} {v : Result T Refusal} {r : Refusal} {x : whole.Result} → v ≡ Err r → ((number_in v ≡ 0 → ⊥) → x ≡ whole.refused (number_in v)) → x ≡ whole.refused (number_of r)
+refused_told {T} {v} {r} {x} e f = subst (λ (w : Result T Refusal). (number_in w ≡ 0 → ⊥) → x ≡ whole.refused (number_in w)) e f (number_some r)
 
 -- one of them is too large, or none is
 when_large : (ts : List (Table Bytes)) → any too_large ts ≡ true → finish ts ≡ whole.refused 8
@@ -54,8 +89,8 @@ steps_fit : (t : Table Bytes) → too_large t ≡ false → any too_large (all_s
 steps_fit t h k = ap finish (stages_are t) ∙ when_fits (t ∷ all_seven t) (rw (h, k) refl)
 
 -- a refusal leaves the outputs as they were
-pub refusal_seen : {r : Answer} {n : ℕ} {os o s os' o' s' : List ℕ} (x : whole.Result) → os' ≡ os → o' ≡ o → s' ≡ s → ((out : Words) → seen r out ≡ answer out (whole.refused n)) → x ≡ whole.refused n → seen r (lent os' o' s') ≡ answer (lent os o s) x
-refusal_seen {r} {n} {os} {o} {s} x a b c f e = rw (a, b, c) (f (lent os o s) ∙ ap (answer (lent os o s)) (sym e))
+pub refusal_seen : {a : Result Answer Refusal} {r : Refusal} {os o s os' o' s' : List ℕ} (x : whole.Result) → a ≡ Err r → os' ≡ os → o' ≡ o → s' ≡ s → x ≡ whole.refused (number_of r) → seen a (lent os' o' s') ≡ answer (lent os o s) x
+refusal_seen {a} {r} {os} {o} {s} x h e f g k = rw (h, e, f, g) (ap (answer (lent os o s)) (sym k))
 
 -- counts of tables that are not too large are words
 abbrev AllSmall : List ℕ → Type 0
@@ -81,9 +116,9 @@ last_fits [] h = refl
 last_fits (t ∷ []) h = neither_left (too_large t) false h
 last_fits (s ∷ t ∷ ts) h = last_fits (t ∷ ts) (neither_right (too_large s) (any too_large (t ∷ ts)) h)
 
-pub ran_small : {i j k l m n count : ℕ} {q : Place} (first : ℕ) (t : Table Bytes) {os o s : List ℕ} → count ≤ full_rules → first ≤ max_rows → Ran (i ∷ j ∷ k ∷ l ∷ m ∷ n ∷ q.rows ∷ []) q (all_seven t) os o s → Small count first i j k l m n q
-ran_small {i} {j} {k} {l} {m} {n} {count} {q} first t c f r =
-    let a : AllSmall (i ∷ j ∷ k ∷ l ∷ m ∷ n ∷ q.rows ∷ []) = subst AllSmall (sym r.counts) (all_small (all_seven t) r.fits) in
+pub ran_small : {count : ℕ} {b : Seven} (first : ℕ) (t : Table Bytes) {os o s : List ℕ} → count ≤ full_rules → first ≤ max_rows → Ran (rows_in b) b.place (all_seven t) os o s → Small count first b
+ran_small {count} {b} first t c f r =
+    let a : AllSmall (rows_in b) = subst AllSmall (sym r.counts) (all_small (all_seven t) r.fits) in
     record {
       rules = omega (arith, c);
       first = omega (arith, f);
@@ -122,24 +157,16 @@ ran_covers {ts = ts} l c e r =
       out_text = omega (arith, r.front.text, few_bytes (last_of ts) h, l.text);
     }
 
--- what a finished call says of itself
-pub record Said (r : Answer) (count first i j k l m n : ℕ) (q : Place) : Type 0 where
-  pub number : r.number ≡ 0
-  pub rules : r.rules ≡ count / rule_width
-  pub rows : r.rows ≡ q.rows
-  pub text : r.text ≡ q.text
-  pub report : r.report ≡ first ∷ i ∷ i ∷ j ∷ j ∷ k ∷ k ∷ l ∷ l ∷ m ∷ m ∷ n ∷ n ∷ q.rows ∷ []
-
 answer_same : {number rules rows text : ℕ} {report os o s : List ℕ} (w : whole.Answer) → number ≡ w.number → rules ≡ w.rules → rows ≡ w.rows → text ≡ w.text → report ≡ w.report → os ≡ w.out.rules → o ≡ w.out.rows → s ≡ w.out.text → ◌≡◌ {A = whole.Answer} (record { number = number; rules = rules; rows = rows; text = text; report = report; out = lent os o s }) w
 answer_same w a b c d e f g h = rw (a, b, c, d, e, f, g, h) refl
 
-pub finished_seen : {r : Answer} {count first i j k l m n : ℕ} {q : Place} (t : Table Bytes) (os o s : List ℕ) {os₁ o₁ s₁ os' o' s' : List ℕ} → Said r count first i j k l m n q → too_large t ≡ false → first ≡ row_count t → count ≡ length (last_of (all_seven t)) * rule_width → Ran (i ∷ j ∷ k ∷ l ∷ m ∷ n ∷ q.rows ∷ []) q (all_seven t) os₁ o₁ s₁ → os' ≡ over (take count os₁) os → o' ≡ over (take (q.rows * row_width) o₁) o → s' ≡ over (take q.text s₁) s → seen r (lent os' o' s') ≡ answer (lent os o s) (finish (stages t))
-finished_seen {r} {count} {first} {i} {j} {k} {l} {m} {n} {q} t os o s {os₁} {o₁} {s₁} said h f c ran a b d =
+pub finished_seen : {r : Answer} {count first : ℕ} {b : Seven} (t : Table Bytes) (os o s : List ℕ) {os₁ o₁ s₁ os' o' s' : List ℕ} → Said r count first b → too_large t ≡ false → first ≡ row_count t → count ≡ length (last_of (all_seven t)) * rule_width → Ran (rows_in b) b.place (all_seven t) os₁ o₁ s₁ → os' ≡ over (take count os₁) os → o' ≡ over (take (b.place.rows * row_width) o₁) o → s' ≡ over (take b.place.text s₁) s → seen (Ok r) (lent os' o' s') ≡ answer (lent os o s) (finish (stages t))
+finished_seen {r} {count} {first} {b} t os o s {os₁} {o₁} {s₁} said h f c ran x y z =
     let u : Table Bytes = last_of (all_seven t) in
-    let fr : Front q u os₁ o₁ s₁ = ran.front in
-    let counts : pairs (t ∷ all_seven t) ≡ pairs_of (first ∷ i ∷ j ∷ k ∷ l ∷ m ∷ n ∷ q.rows ∷ []) = pairs_are (t ∷ all_seven t) ∙ ap pairs_of (ap₂ ◌∷◌ (sym f) (sym ran.counts)) in
-    let heads : take count os₁ ≡ (words_of u).rules = ap (λ (x : ℕ). take x os₁) c ∙ fr.rule_words_lem in
-    answer_same (answer (lent os o s) (whole.finished (pairs (t ∷ all_seven t)) u)) said.number (said.rules ∙ omega (arith, c)) (said.rows ∙ fr.rows) (said.text ∙ fr.text) (said.report ∙ sym counts) (a ∙ ap (λ (x : List ℕ). over x os) heads) (b ∙ ap (λ (x : List ℕ). over x o) fr.row_words_lem) (d ∙ ap (λ (x : List ℕ). over x s) fr.bytes)
+    let fr : Front b.place u os₁ o₁ s₁ = ran.front in
+    let counts : pairs (t ∷ all_seven t) ≡ pairs_of (first ∷ rows_in b) = pairs_are (t ∷ all_seven t) ∙ ap pairs_of (ap₂ ◌∷◌ (sym f) (sym ran.counts)) in
+    let heads : take count os₁ ≡ (words_of u).rules = ap (λ (n : ℕ). take n os₁) c ∙ fr.rule_words_lem in
+    answer_same (answer (lent os o s) (whole.finished (pairs (t ∷ all_seven t)) u)) refl (said.rules ∙ omega (arith, c)) (said.rows ∙ fr.rows) (said.text ∙ fr.text) (said.report ∙ sym counts) (x ∙ ap (λ (w : List ℕ). over w os) heads) (y ∙ ap (λ (w : List ℕ). over w o) fr.row_words_lem) (z ∙ ap (λ (w : List ℕ). over w s) fr.bytes)
     ∙ ap (answer (lent os o s)) (sym (steps_fit t h ran.fits))
 
 -- the rows before the first step, and the rules after the last
@@ -163,9 +190,9 @@ module _ {rules rows : List ℕ} {text : Bytes} {marks : List ℕ} (r : Ready ru
 longer : (n : ℕ) (new old : List ℕ) → n ≤ length new → take n (new ++ old) ≡ take n new
 longer n new old h = take-append-le n new old h
 
-pub answer_longer : (a : Seven) (ts : List (Table Bytes)) (os o s x y z : List ℕ) → SevenAnswer a ts os o s → SevenAnswer a ts (os ++ x) (o ++ y) (s ++ z)
-answer_longer (seven.Done i j k l m n q) ts os o s x y z r =
-    let f : Front q (last_of ts) os o s = r.front in
+pub answer_longer : (a : Option Seven) (ts : List (Table Bytes)) (os o s x y z : List ℕ) → SevenAnswer a ts os o s → SevenAnswer a ts (os ++ x) (o ++ y) (s ++ z)
+answer_longer (Some b) ts os o s x y z r =
+    let f : Front b.place (last_of ts) os o s = r.front in
     let w = front_within (last_of ts) f in
     record {
       counts = r.counts;
@@ -175,8 +202,8 @@ answer_longer (seven.Done i j k l m n q) ts os o s x y z r =
             rows = f.rows;
             text = f.text;
             rule_words_lem = longer (length (last_of ts) * rule_width) os x w.0 ∙ f.rule_words_lem;
-            row_words_lem = longer (q.rows * row_width) o y w.1 ∙ f.row_words_lem;
-            bytes = longer q.text s z w.2 ∙ f.bytes;
+            row_words_lem = longer (b.place.rows * row_width) o y w.1 ∙ f.row_words_lem;
+            bytes = longer b.place.text s z w.2 ∙ f.bytes;
           };
     }
-answer_longer seven.Full ts os o s x y z r = r
+answer_longer None ts os o s x y z r = r

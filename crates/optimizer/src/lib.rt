@@ -11,68 +11,42 @@ ghost use Rattle.refusals.specs.Check.{lent};
 ghost use Rattle.passes.specs.Passes.{Lent};
 ghost use Rattle.admission.specs.Ready.{Ready};
 ghost use Rattle.turns.specs.Chain.{SevenAnswer, all_seven};
-ghost use Rattle.optimizer.specs.Entry.{seen, AtLeast, Small};
+ghost use Rattle.optimizer.specs.Entry.{seen, AtLeast, Small, Said};
 
-use grammar::{REFUSED_FULL, ROW_WIDTH, RULE_WIDTH};
+use grammar::{ROW_WIDTH, RULE_WIDTH, Refusal};
 use refusals::{FULL_ROWS, FULL_RULES, FULL_TEXT};
 use turns::Seven;
-use writing::Place;
 
 // Rows before and after each of the seven steps.
 pub const REPORT: usize = 14;
 
-// The whole answer: the refusal's number or 0, the counts, and for each step the rows before and after it.
+// A finished table: the counts of its rules, rows and bytes, and for each step the rows before and after it.
 #[derive(Clone, Copy)]
 pub struct Answer {
-    pub number: u32,
     pub rules: u32,
     pub rows: u32,
     pub text: u32,
     pub report: [u32; REPORT],
 }
 
-// A refusal: its number, zero counts and a zero report.
-fn refused(number: u32) -> Answer
-    ensures { (out : Words) → seen result out ≡ answer out (whole.refused number) }
+// What is told of a finished table: `first` are its rows before the first step.
+fn finished(count: usize, first: usize, steps: Seven) -> Answer
+    requires { Small count first steps }
+    ensures { Said result count first steps }
 {
-    Answer {
-        number: number,
-        rules: 0,
-        rows: 0,
-        text: 0,
-        report: [0u32; REPORT],
-    }
-}
-
-// A finished table: `n` are its rows before the first step, then after each.
-fn finished(
-    count: usize,
-    n: usize,
-    n1: usize,
-    n2: usize,
-    n3: usize,
-    n4: usize,
-    n5: usize,
-    n6: usize,
-    p: Place,
-) -> Answer
-    requires { Small count n n1 n2 n3 n4 n5 n6 p }
-    ensures { (result.number ≡ 0) × (result.rules ≡ count / rule_width) × (result.rows ≡ p.rows) × (result.text ≡ p.text) × (result.report ≡ n ∷ n1 ∷ n1 ∷ n2 ∷ n2 ∷ n3 ∷ n3 ∷ n4 ∷ n4 ∷ n5 ∷ n5 ∷ n6 ∷ n6 ∷ p.rows ∷ []) }
-{
-    let a = n as u32;
-    let b = n1 as u32;
-    let c = n2 as u32;
-    let d = n3 as u32;
-    let e = n4 as u32;
-    let f = n5 as u32;
-    let g = n6 as u32;
-    let h = p.rows as u32;
+    let a = first as u32;
+    let b = steps.rotated as u32;
+    let c = steps.skipped as u32;
+    let d = steps.unrolled as u32;
+    let e = steps.concatenated as u32;
+    let f = steps.factored as u32;
+    let g = steps.listed as u32;
+    let h = steps.place.rows as u32;
     let rules = count / RULE_WIDTH;
     Answer {
-        number: 0,
         rules: rules as u32,
         rows: h,
-        text: p.text as u32,
+        text: steps.place.text as u32,
         report: [a, b, b, c, c, d, d, e, e, f, f, g, g, h],
     }
 }
@@ -89,7 +63,7 @@ fn steps(
     b_rules: &mut [u32],
     b_rows: &mut [u32],
     b_text: &mut [u8],
-) -> Seven
+) -> Option<Seven>
     requires ready { Ready rules.now rows.now text.now marks.old }
     requires at_least { AtLeast a_rules.old a_rows.old a_text.old }
     requires at_least_2 { AtLeast b_rules.old b_rows.old b_text.old }
@@ -125,7 +99,7 @@ pub fn optimize(
     b_rows: &mut [u32],
     b_text: &mut [u8],
     marks: &mut [u32],
-) -> Answer
+) -> Result<Answer, Refusal>
     ensures { seen result (lent out_rules.new out_rows.new out_text.new) ≡ optimize (lent rules.now rows.now text.now) (lent out_rules.old out_rows.old out_text.old) (lent a_rules.old a_rows.old a_text.old) (lent b_rules.old b_rows.old b_text.old) marks.old }
 {
     let short = admission::any_short(
@@ -140,18 +114,14 @@ pub fn optimize(
         b_text.len(),
         marks.len(),
     );
-    let number = admission::refusal(short, rules, rows, text, marks);
-    if number != 0 {
-        return refused(number);
-    }
-    let Seven::Done(n1, n2, n3, n4, n5, n6, p) = steps(
+    admission::refusal(short, rules, rows, text, marks)?;
+    let done = steps(
         rules, rows, text, marks, a_rules, a_rows, a_text, b_rules, b_rows, b_text,
-    ) else {
-        return refused(REFUSED_FULL);
-    };
+    )
+    .ok_or(Refusal::Full)?;
     let count = rules.len();
     packing::put_out(
-        count, p, a_rules, a_rows, a_text, out_rules, out_rows, out_text,
+        count, done.place, a_rules, a_rows, a_text, out_rules, out_rows, out_text,
     );
-    finished(count, rows.len() / ROW_WIDTH, n1, n2, n3, n4, n5, n6, p)
+    Ok(finished(count, rows.len() / ROW_WIDTH, done))
 }

@@ -1,3 +1,2 @@
--- Laws of sums over words and of copies.
+-- Laws of sums over words.
 pub mod Sums
-pub mod Overs

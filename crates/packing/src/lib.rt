@@ -1,7 +1,7 @@
 // A table's packed text, measured before the first step, and the last table, copied out.
 #![tactic(auto)]
 
-ghost use Rattle.std.specs.Prelude.{◌≡◌, ◌*◌, ◌^◌, ◌≤◌, ◌<◌, length, take};
+ghost use Rattle.std.specs.Prelude.{◌≡◌, ℕ, ◌++◌, ◌*◌, ◌^◌, ◌≤◌, ◌<◌, length, take, drop};
 ghost use Rattle.grammar.specs.Refusals.{full_rules, full_rows};
 ghost use Rattle.grammar.specs.Numbers.{row_width};
 ghost use Rattle.grammar.specs.Basic.{Bytes};
@@ -12,56 +12,33 @@ ghost use Rattle.rows.specs.Rows.{Inside};
 ghost use Rattle.names.specs.Names.{NamesInside};
 ghost use Rattle.packing.specs.Packing.{sum_four, name_length, lit_length, row_length, Covers};
 
-use grammar::{IDENT, LENGTH, RANGE, ROW_WIDTH, RULE_WIDTH, Y};
+use grammar::{IDENT, RANGE, ROW_WIDTH, X, Y};
 use writing::Place;
 
-// A length word as a number: below 2^32, so that sums of them stay in a usize.
-fn name_length(n: u32) -> usize
-    ensures { (result ≡ n) × (result < 2 ^ 32) }
-{
-    n as usize
-}
-
 // The length of a row's literal, 0 where the kind has none.
+#[tactic(auto, unfolding(crate::specs::Packing::lit_length))]
 fn lit_length(kind: u32, y: u32) -> usize
     ensures { (result ≡ lit_length kind y) × (result < 2 ^ 32) }
 {
-    if kind > IDENT {
-        return 0;
+    if kind <= IDENT && kind != RANGE {
+        y as usize
+    } else {
+        0
     }
-    if kind == RANGE {
-        return 0;
-    }
-    y as usize
 }
 
-// The sum of the names' lengths.
-fn names_size(rules: &[u32]) -> usize
-    requires { length rules.now ≤ full_rules }
-    ensures { (result ≡ sum_four name_length rules.now) × (result ≤ 2 ^ 40) }
+// The sum over rules or rows of a length that a rule or row has by its first three words.
+fn sum_four<F: Fn(u32, u32, u32) -> usize>(words: &[u32], size: F) -> usize
+    requires callable { F.IsAlwaysCallable size }
+    requires small { (a b c r : ℕ) → F.post size a b c r → r < 2 ^ 32 }
+    requires few { length words.now ≤ full_rows }
+    ensures sum { (f : ℕ → ℕ → ℕ → ℕ) → ((a b c r : ℕ) → F.post size a b c r → r ≡ f a b c) → result ≡ sum_four f words.now }
+    ensures most { result ≤ 2 ^ 44 }
 {
-    let count = rules.len() / RULE_WIDTH;
     let mut sum = 0;
-    let mut i = 0;
-    while i < count {
-        sum += name_length(rules[i * RULE_WIDTH + LENGTH]);
-        i += 1;
-    }
-    sum
-}
-
-// The sum of the literals' lengths.
-fn lits_size(rows: &[u32]) -> usize
-    requires { length rows.now ≤ full_rows }
-    ensures { (result ≡ sum_four row_length rows.now) × (result ≤ 2 ^ 44) }
-{
-    let count = rows.len() / ROW_WIDTH;
-    let mut sum = 0;
-    let mut i = 0;
-    while i < count {
+    for i in 0..words.len() / ROW_WIDTH {
         let at = i * ROW_WIDTH;
-        sum += lit_length(rows[at], rows[at + Y]);
-        i += 1;
+        sum += size(words[at], words[at + X], words[at + Y]);
     }
     sum
 }
@@ -71,20 +48,15 @@ pub fn text_size(rules: &[u32], rows: &[u32]) -> usize
     requires { (length rules.now ≤ full_rules) × (length rows.now ≤ full_rows) }
     ensures { (t : Table Span) (text : Bytes) → rule_words t ≡ rules.now → row_words t ≡ rows.now → Inside rows.now (length text) → NamesInside rules.now (length text) → result ≡ length (table_text (resolve_table text t)) }
 {
-    let names = names_size(rules);
-    names + lits_size(rows)
+    sum_four(rules, |_, n, _| n as usize) + sum_four(rows, |kind, _, y| lit_length(kind, y))
 }
 
-// Copies n words of src over the front of dst.
-fn copy_words(src: &[u32], n: usize, dst: &mut [u32])
+// Copies n words or bytes of src over the front of dst.
+fn copy_front<T: Copy>(src: &[T], n: usize, dst: &mut [T])
     requires { (n ≤ length src.now) × (n ≤ length dst.old) }
-    ensures { dst.new ≡ over (take n src.now) dst.old }
+    ensures { dst.new ≡ take n src.now ++ drop n dst.old }
 {
-    let mut i = 0;
-    while i < n {
-        dst[i] = src[i];
-        i += 1;
-    }
+    dst[..n].copy_from_slice(&src[..n]);
 }
 
 // Copies a packed table of `count` words of rules, up to p, over the front of three outputs.
@@ -103,7 +75,7 @@ pub fn put_out(
     ensures out_rows_after { out_rows.new ≡ over (take (p.rows * row_width) rows.now) out_rows.old }
     ensures out_text_after { out_text.new ≡ over (take p.text text.now) out_text.old }
 {
-    copy_words(heads, count, out_rules);
-    copy_words(rows, p.rows * ROW_WIDTH, out_rows);
-    writing::copy_bytes(text, 0, p.text, out_text, 0);
+    copy_front(heads, count, out_rules);
+    copy_front(rows, p.rows * ROW_WIDTH, out_rows);
+    copy_front(text, p.text, out_text);
 }

@@ -1,4 +1,5 @@
 -- Answers of steps, as a pass reads them. Assumes nothing.
+use Rattle.std.specs.Prelude.{None, Option, Some}
 use mathlib.Core.Path.{◌≡◌, ap, ◌∙◌, subst}
 use mathlib.Core.List.{List, ◌++◌, append_assoc}
 use Prim.Native.Nat.{ℕ, ◌+◌, ◌*◌, ◌/◌, ◌≤◌}
@@ -14,36 +15,34 @@ use Rattle.grammar.specs.Text.{text_of, packed, bytes_at, resolve}
 use Rattle.writing.specs.Writes.{Room, Answer, stored}
 use Rattle.writing.specs.Keeps.{Kept, KeptAnswer}
 use Rattle.writing.specs.declared.Place.{Place}
-use Rattle.writing.specs.declared.Wrote.{Wrote}
-use Rattle.writing.specs.declared.Wrote.TheVariants.{Done, Full}
 use Rattle.writing.proofs.Keeps.{written_kept}
 use Rattle.writing.proofs.Runs.{take_stored, length_stored}
 use Rattle.passes.specs.Passes.{StepAnswer, Prepared, NamePut, NameAnswer, RuleFits, RulePrepared, RuleKept}
 
 -- of a step that can grow
-pub answer_step : (a : Wrote) (p : Place) (e : E) (o o' t t' : List ℕ) → Answer a p e o o' t t' → StepAnswer a p e o o' t t'
-answer_step (Done q) p e o o' t t' h = written_kept h
-answer_step Full p e o o' t t' h = h
+pub answer_step : (a : Option Place) (p : Place) (e : E) (o o' t t' : List ℕ) → Answer a p e o o' t t' → StepAnswer a p e o o' t t'
+answer_step (Some q) p e o o' t t' h = written_kept h
+answer_step None p e o o' t t' h = h
 
 -- of a step that can't
-pub kept_step : (a : Wrote) (p : Place) (e : E) (o o' t t' : List ℕ) → KeptAnswer a p e o o' t t' → StepAnswer a p e o o' t t'
-kept_step (Done q) p e o o' t t' h = h
-kept_step Full p e o o' t t' h = absurd h
+pub kept_step : (a : Option Place) (p : Place) (e : E) (o o' t t' : List ℕ) → KeptAnswer a p e o o' t t' → StepAnswer a p e o o' t t'
+kept_step (Some q) p e o o' t t' h = h
+kept_step None p e o o' t t' h = absurd h
 
 -- an answer that is known
-pub name_done : {a : Wrote} {q : Place} (p : Place) (s t t' : List ℕ) → a ≡ Done q → NameAnswer a p s t t' → NamePut q p s t t'
-name_done p s t t' e h = subst (λ (a : Wrote). NameAnswer a p s t t') e h
+pub name_done : {a : Option Place} {q : Place} (p : Place) (s t t' : List ℕ) → a ≡ Some q → NameAnswer a p s t t' → NamePut q p s t t'
+name_done p s t t' e h = subst (λ (a : Option Place). NameAnswer a p s t t') e h
 
-pub step_done : {a : Wrote} {q : Place} (p : Place) (e : E) (o o' t t' : List ℕ) → a ≡ Done q → StepAnswer a p e o o' t t' → Kept q p e o o' t t'
-step_done p e o o' t t' k h = subst (λ (a : Wrote). StepAnswer a p e o o' t t') k h
+pub step_done : {a : Option Place} {q : Place} (p : Place) (e : E) (o o' t t' : List ℕ) → a ≡ Some q → StepAnswer a p e o o' t t' → Kept q p e o o' t t'
+step_done p e o o' t t' k h = subst (λ (a : Option Place). StepAnswer a p e o o' t t') k h
 
 -- a rule whose name or whose tree does not fit
-pub no_name : {a : Wrote} (p : Place) (s t t' : List ℕ) (e : E) (o : List ℕ) → a ≡ Full → NameAnswer a p s t t' → RuleFits p s e o t → ⊥
-no_name p s t t' e o k h f = subst (λ (a : Wrote). NameAnswer a p s t t') k h (omega (arith, f.text, length-append s (text_of e)))
+pub no_name : {a : Option Place} (p : Place) (s t t' : List ℕ) (e : E) (o : List ℕ) → a ≡ None → NameAnswer a p s t t' → RuleFits p s e o t → ⊥
+no_name p s t t' e o k h f = subst (λ (a : Option Place). NameAnswer a p s t t') k h (omega (arith, f.text, length-append s (text_of e)))
 
-pub no_tree : {a : Wrote} {q p : Place} {s t t₁ : List ℕ} (t₂ : List ℕ) (e : E) (o o' : List ℕ) → length t₁ ≡ length t → NamePut q p s t t₁ → a ≡ Full → StepAnswer a q e o o' t₁ t₂ → RuleFits p s e o t → ⊥
+pub no_tree : {a : Option Place} {q p : Place} {s t t₁ : List ℕ} (t₂ : List ℕ) (e : E) (o o' : List ℕ) → length t₁ ≡ length t → NamePut q p s t t₁ → a ≡ None → StepAnswer a q e o o' t₁ t₂ → RuleFits p s e o t → ⊥
 no_tree {a} {q} {p} {s} {t} {t₁} t₂ e o o' l n k h f =
-    subst (λ (a : Wrote). StepAnswer a q e o o' t₁ t₂) k h
+    subst (λ (a : Option Place). StepAnswer a q e o o' t₁ t₂) k h
     (record { rows = omega (arith, f.rows, n.rows); text = omega (arith, f.text, n.text, length-append s (text_of e)) })
 
 -- a rule's name, its tree and its words
@@ -58,7 +57,7 @@ rule_kept {r} {q} {p} {i} {y} {n} {m} {s} {t} {t₁} {t₂} {e} {os} {os'} {o} {
     }
 
 -- the same name by equal offsets
-pub name_same : (a : Wrote) (p : Place) (text : Bytes) {x n x' n' : ℕ} (t t' : List ℕ) → x ≡ x' → n ≡ n' → NameAnswer a p (bytes_at text (x, n)) t t' → NameAnswer a p (bytes_at text (x', n')) t t'
+pub name_same : (a : Option Place) (p : Place) (text : Bytes) {x n x' n' : ℕ} (t t' : List ℕ) → x ≡ x' → n ≡ n' → NameAnswer a p (bytes_at text (x, n)) t t' → NameAnswer a p (bytes_at text (x', n')) t t'
 name_same a p text {x} {n} {x'} {n'} t t' u v h = subst (λ (k : ℕ). NameAnswer a p (bytes_at text (x', k)) t t') v (subst (λ (k : ℕ). NameAnswer a p (bytes_at text (k, n)) t t') u h)
 
 pub name_length_lem : {q p : Place} {s t t' : List ℕ} → NamePut q p s t t' → length t' ≡ length t

@@ -1,4 +1,5 @@
 -- The loop of a pass: what holds at its test, and what one more rule gives. Assumes nothing.
+use Rattle.std.specs.Prelude.{None, Option, Some}
 use mathlib.Core.Path.{◌≡◌, refl, sym, ap, ◌∙◌, subst}
 use mathlib.Core.List.{List, ◌∷◌, ◌++◌}
 use Prim.Native.Nat.{ℕ, ◌+◌, ◌*◌, ◌/◌, ◌≤◌, ◌<◌}
@@ -18,8 +19,6 @@ use Rattle.rows.proofs.Views.{at_unique}
 use Rattle.passes.proofs.Growth.{step_of_less, step_of_text, asks_part, rule_fits_same}
 use Rattle.writing.specs.Writes.{Areas, Room}
 use Rattle.writing.specs.declared.Place.{Place}
-use Rattle.writing.specs.declared.Wrote.{Wrote}
-use Rattle.writing.specs.declared.Wrote.TheVariants.{Done, Full}
 use Rattle.passes.specs.Passes.{step_of, Asks, AsksAll, Lent, RulePrepared, RuleReady, RuleFits, RuleKept, RuleAnswer, Holds, Passing, TableFits, Front}
 use Rattle.passes.proofs.Tables.{count_append}
 use Rattle.passes.proofs.Progress.{Progress, Next, start, next_rule, the_next, progress_next, rule_fits, finished, rows_length}
@@ -82,21 +81,21 @@ module _ {step : ℕ} {rs₀ ws₀ : List ℕ} {text₀ : Bytes} {rs ws : List �
       }
 
   -- the answer for the rule, in the rule's own terms
-  rule_answer : (a : Wrote) (t : Table Bytes) (ts : Table Span) (os' o' s' : List ℕ) (r : Rule Span) → Next ts rs ws text i end r → RuleAnswer a p i (get_or rs (i * rule_width + type_word) 0) (bytes_at text (get_or rs (i * rule_width) 0, get_or rs (i * rule_width + length_word) 0)) (step_of step t (get_or rs (i * rule_width + type_word) 0) (resolve text r.body)) os os' o o' s s' → RuleAnswer a p i r.type (bytes_at text r.name) (step_of step t r.type (resolve text r.body)) os os' o o' s s'
+  rule_answer : (a : Option Place) (t : Table Bytes) (ts : Table Span) (os' o' s' : List ℕ) (r : Rule Span) → Next ts rs ws text i end r → RuleAnswer a p i (get_or rs (i * rule_width + type_word) 0) (bytes_at text (get_or rs (i * rule_width) 0, get_or rs (i * rule_width + length_word) 0)) (step_of step t (get_or rs (i * rule_width + type_word) 0) (resolve text r.body)) os os' o o' s s' → RuleAnswer a p i r.type (bytes_at text r.name) (step_of step t r.type (resolve text r.body)) os os' o o' s s'
   rule_answer a t ts os' o' s' r n h =
       subst (λ (y : ℕ). RuleAnswer a p i y (bytes_at text r.name) (step_of step t y (resolve text r.body)) os os' o o' s s') n.type
       (subst (λ (x : ℕ). RuleAnswer a p i (get_or rs (i * rule_width + type_word) 0) (bytes_at text (r.name.0, x)) (step_of step t (get_or rs (i * rule_width + type_word) 0) (resolve text r.body)) os os' o o' s s') n.len
       (subst (λ (x : ℕ). RuleAnswer a p i (get_or rs (i * rule_width + type_word) 0) (bytes_at text (x, get_or rs (i * rule_width + length_word) 0)) (step_of step t (get_or rs (i * rule_width + type_word) 0) (resolve text r.body)) os os' o o' s s') n.offset h))
 
   -- what one_rule says of the tree at its root
-  abbrev pub Said : Wrote → ℕ → (os' o' s' : List ℕ) → Type 0
+  abbrev pub Said : Option Place → ℕ → (os' o' s' : List ℕ) → Type 0
   Said a root os' o' s' = (gs : Table Span) (r : Expr Span) → Lent gs rs₀ ws₀ → At ws root r → RuleAnswer a p i (get_or rs (i * rule_width + type_word) 0) (bytes_at text (get_or rs (i * rule_width) 0, get_or rs (i * rule_width + length_word) 0)) (step_of step (resolve_table text₀ gs) (get_or rs (i * rule_width + type_word) 0) (resolve text r)) os os' o o' s s'
 
-  said : (a : Wrote) (root : ℕ) (os' o' s' : List ℕ) → Said a root os' o' s' → (gs ts : Table Span) → Lent gs rs₀ ws₀ → (r : Rule Span) → Next ts rs ws text i end r → root + 1 ≡ end + size r.body → RuleAnswer a p i r.type (bytes_at text r.name) (step_of step (resolve_table text₀ gs) r.type (resolve text r.body)) os os' o o' s s'
+  said : (a : Option Place) (root : ℕ) (os' o' s' : List ℕ) → Said a root os' o' s' → (gs ts : Table Span) → Lent gs rs₀ ws₀ → (r : Rule Span) → Next ts rs ws text i end r → root + 1 ≡ end + size r.body → RuleAnswer a p i r.type (bytes_at text r.name) (step_of step (resolve_table text₀ gs) r.type (resolve text r.body)) os os' o o' s s'
   said a root os' o' s' f gs ts g r n e = rule_answer a (resolve_table text₀ gs) ts os' o' s' r n (f gs r.body g (n.at root e))
 
   -- one more rule is done
-  pub loop_next : {a : Wrote} {q : Place} {root end' : ℕ} (os' o' s' : List ℕ) → a ≡ Done q → (ts : Table Span) → Holds ts rs ws text → length rs ≤ length os₀ → length os' ≡ length os → length o' ≡ length o → length s' ≡ length s → end' ≡ end + get_or rs (i * rule_width + rows_word) 0 → root + 1 ≡ end' → Said a root os' o' s' → Loop step rs₀ ws₀ text₀ rs ws text os₀ o₀ s₀ os' o' s' q end' (i + 1)
+  pub loop_next : {a : Option Place} {q : Place} {root end' : ℕ} (os' o' s' : List ℕ) → a ≡ Some q → (ts : Table Span) → Holds ts rs ws text → length rs ≤ length os₀ → length os' ≡ length os → length o' ≡ length o → length s' ≡ length s → end' ≡ end + get_or rs (i * rule_width + rows_word) 0 → root + 1 ≡ end' → Said a root os' o' s' → Loop step rs₀ ws₀ text₀ rs ws text os₀ o₀ s₀ os' o' s' q end' (i + 1)
   loop_next {a} {q} {root} {end'} os' o' s' d tab held k eos eo es e e₂ f =
       record {
         heads_same = eos ∙ l.heads_same;
@@ -111,7 +110,7 @@ module _ {step : ℕ} {rs₀ ws₀ : List ℕ} {text₀ : Bytes} {rs ws : List �
       }
     where
       known : (gs ts : Table Span) → Lent gs rs₀ ws₀ → (r : Rule Span) → Next ts rs ws text i end r → RuleKept q p i r.type (bytes_at text r.name) (step_of step (resolve_table text₀ gs) r.type (resolve text r.body)) os os' o o' s s'
-      known gs ts k₀ r x = subst (λ (b : Wrote). RuleAnswer b p i r.type (bytes_at text r.name) (step_of step (resolve_table text₀ gs) r.type (resolve text r.body)) os os' o o' s s') d (said a root os' o' s' f gs ts k₀ r x (omega (arith, e, e₂, x.count)))
+      known gs ts k₀ r x = subst (λ (b : Option Place). RuleAnswer b p i r.type (bytes_at text r.name) (step_of step (resolve_table text₀ gs) r.type (resolve text r.body)) os os' o o' s s') d (said a root os' o' s' f gs ts k₀ r x (omega (arith, e, e₂, x.count)))
 
       kept : (gs ts : Table Span) → Lent gs rs₀ ws₀ → (h : Holds ts rs ws text) → RuleKept q p i (here ts h).rule.type (bytes_at text (here ts h).rule.name) (step_of step (resolve_table text₀ gs) (here ts h).rule.type (resolve text (here ts h).rule.body)) os os' o o' s s'
       kept gs ts k₀ h = known gs ts k₀ (here ts h).rule (here ts h).next
@@ -128,13 +127,13 @@ module _ {step : ℕ} {rs₀ ws₀ : List ℕ} {text₀ : Bytes} {rs ws : List �
           }
 
   -- a rule that does not fit
-  pub loop_full : {a : Wrote} {root end' : ℕ} (os' o' s' : List ℕ) → a ≡ Full → end' ≡ end + get_or rs (i * rule_width + rows_word) 0 → root + 1 ≡ end' → Said a root os' o' s' → (gs ts : Table Span) → Lent gs rs₀ ws₀ → Holds ts rs ws text → TableFits (each (step_of step (resolve_table text₀ gs)) (resolve_table text ts)) os₀ o₀ s₀ → ⊥
+  pub loop_full : {a : Option Place} {root end' : ℕ} (os' o' s' : List ℕ) → a ≡ None → end' ≡ end + get_or rs (i * rule_width + rows_word) 0 → root + 1 ≡ end' → Said a root os' o' s' → (gs ts : Table Span) → Lent gs rs₀ ws₀ → Holds ts rs ws text → TableFits (each (step_of step (resolve_table text₀ gs)) (resolve_table text ts)) os₀ o₀ s₀ → ⊥
   loop_full {a} {root} {end'} os' o' s' d e e₂ f gs ts k₀ h t =
       let g = l.progress gs ts k₀ h in
       let n = next_rule _ ts text i end p os o s rs h.rules m g in
       let x = the_next h g n.0 n.1 n.2 in
       let y : RuleFits p (bytes_at text n.0.name) (step_of step (resolve_table text₀ gs) n.0.type (resolve text n.0.body)) o s = rule_fits h g n.0 n.1 n.2 {os' = os₀} (record { rules = t.rules; rows = omega (arith, t.rows, l.out_same); text = omega (arith, t.text, l.lits_same) }) in
-      subst (λ (b : Wrote). RuleAnswer b p i n.0.type (bytes_at text n.0.name) (step_of step (resolve_table text₀ gs) n.0.type (resolve text n.0.body)) os os' o o' s s') d (said a root os' o' s' f gs ts k₀ n.0 x (omega (arith, e, e₂, x.count))) y
+      subst (λ (b : Option Place). RuleAnswer b p i n.0.type (bytes_at text n.0.name) (step_of step (resolve_table text₀ gs) n.0.type (resolve text n.0.body)) os os' o o' s s') d (said a root os' o' s' f gs ts k₀ n.0 x (omega (arith, e, e₂, x.count))) y
 
 -- every rule is done
 pub loop_done : {step : ℕ} {rs₀ ws₀ : List ℕ} {text₀ : Bytes} {rs ws : List ℕ} {text : Bytes} {os₀ o₀ s₀ os o s : List ℕ} {p : Place} {end i : ℕ} → Loop step rs₀ ws₀ text₀ rs ws text os₀ o₀ s₀ os o s p end i → length rs / rule_width ≤ i → (gs ts : Table Span) → Lent gs rs₀ ws₀ → Holds ts rs ws text → Front p (each (step_of step (resolve_table text₀ gs)) (resolve_table text ts)) os o s

@@ -1,4 +1,5 @@
 -- Steps by their numbers: what each asks, and what it answers. Assumes nothing.
+use Rattle.std.specs.Prelude.{Option}
 use mathlib.Core.Path.{◌≡◌, refl, sym, ap, ◌∙◌, subst}
 use mathlib.Core.Bool.{Bool, true, false}
 use mathlib.Core.List.{List}
@@ -19,7 +20,6 @@ use Rattle.rows.specs.Rows.{At, Stands}
 use Rattle.writing.specs.Writes.{Answer}
 use Rattle.writing.specs.Keeps.{Ready, KeptAnswer}
 use Rattle.writing.specs.declared.Place.{Place}
-use Rattle.writing.specs.declared.Wrote.{Wrote}
 use Rattle.unroller.specs.Items.{Counted}
 use Rattle.passes.specs.Passes.{step_of, grows, Lent, Prepared, StepAnswer}
 use Rattle.passes.proofs.Answers.{answer_step, kept_step}
@@ -54,10 +54,10 @@ module _ {step type : ℕ} {rs₀ ws₀ : List ℕ} {text₀ : Bytes} {marks ws 
   pub look_for : step ≡ 7 → (gs : Table Span) (e : E) → restore (resolve_table text₀ gs) e ≡ restore (resolve_table text gs) e
   look_for h gs e = ap (λ (x : Bytes). restore (resolve_table x gs) e) ((r.asks s.tree s.at).same_text h)
 
-pub kept_by : (a : Wrote) (p : Place) {step : ℕ} (n : ℕ) (look : Table Bytes) (y : ℕ) (e x : E) (o o' t t' : List ℕ) → step ≡ n → step_of n look y e ≡ x → KeptAnswer a p x o o' t t' → StepAnswer a p (step_of step look y e) o o' t t'
+pub kept_by : (a : Option Place) (p : Place) {step : ℕ} (n : ℕ) (look : Table Bytes) (y : ℕ) (e x : E) (o o' t t' : List ℕ) → step ≡ n → step_of n look y e ≡ x → KeptAnswer a p x o o' t t' → StepAnswer a p (step_of step look y e) o o' t t'
 kept_by a p n look y e x o o' t t' h q k = subst (λ (z : E). StepAnswer a p z o o' t t') (sym (ap (λ (m : ℕ). step_of m look y e) h ∙ q)) (kept_step a p x o o' t t' k)
 
-pub exact_by : (a : Wrote) (p : Place) {step : ℕ} (n : ℕ) (look : Table Bytes) (y : ℕ) (e x : E) (o o' t t' : List ℕ) → step ≡ n → step_of n look y e ≡ x → Answer a p x o o' t t' → StepAnswer a p (step_of step look y e) o o' t t'
+pub exact_by : (a : Option Place) (p : Place) {step : ℕ} (n : ℕ) (look : Table Bytes) (y : ℕ) (e x : E) (o o' t t' : List ℕ) → step ≡ n → step_of n look y e ≡ x → Answer a p x o o' t t' → StepAnswer a p (step_of step look y e) o o' t t'
 exact_by a p n look y e x o o' t t' h q k = subst (λ (z : E). StepAnswer a p z o o' t t') (sym (ap (λ (m : ℕ). step_of m look y e) h ∙ q)) (answer_step a p x o o' t t' k)
 
 no_number : (n m : ℕ) → (n ≡ m → ⊥) → eqb n m ≡ false

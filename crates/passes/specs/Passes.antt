@@ -1,5 +1,5 @@
 -- A step by its number, and what a pass over the rules of a table leaves in three areas. Assumes nothing.
-use Rattle.std.specs.Prelude.{◌≡◌, Bool, true, false, not, ◌||◌, cond, List, [], ◌∷◌, ◌++◌, ℕ, ◌+◌, ◌*◌, ◌/◌, ◌≤◌, ◌<◌, length, take, get_or, eqb}
+use Rattle.std.specs.Prelude.{◌≡◌, Bool, true, false, not, ◌||◌, cond, List, [], ◌∷◌, ◌++◌, ℕ, ◌+◌, ◌*◌, ◌/◌, ◌≤◌, ◌<◌, length, take, get_or, eqb, None, Option, Some}
 use Rattle.grammar.specs.Numbers.{rule_width, length_word, type_word, row_width}
 use Rattle.grammar.specs.Basic.{Bytes}
 use Rattle.grammar.specs.Tree.{Expr, E, size, any_node}
@@ -17,8 +17,6 @@ use Rattle.restorer.specs.Lends.{Marked}
 use Rattle.writing.specs.Writes.{Fits, Areas, stored}
 use Rattle.writing.specs.Keeps.{Kept}
 use Rattle.writing.specs.declared.Place.{Place}
-use Rattle.writing.specs.declared.Wrote.{Wrote}
-use Rattle.writing.specs.declared.Wrote.TheVariants.{Done, Full}
 
 -- the steps by number
 abbrev pub rotate_step : ℕ
@@ -70,9 +68,9 @@ abbrev pub grows : ℕ → Bool
 grows n = not (eqb n rotate_step || (eqb n concatenate_step || (eqb n factor_step || eqb n list_step)))
 
 -- the answer of a step, whether it can grow or not
-abbrev pub StepAnswer : Wrote → Place → E → List ℕ → List ℕ → List ℕ → List ℕ → Type 0
-StepAnswer (Done q) p e o o' t t' = Kept q p e o o' t t'
-StepAnswer Full p e o o' t t' = Fits p e o t → ⊥
+abbrev pub StepAnswer : Option Place → Place → E → List ℕ → List ℕ → List ℕ → List ℕ → Type 0
+StepAnswer (Some q) p e o o' t t' = Kept q p e o o' t t'
+StepAnswer None p e o o' t t' = Fits p e o t → ⊥
 
 -- the table's words stand lent
 pub record Lent (t : Table Span) (rs ws : List ℕ) : Type 0 where
@@ -106,9 +104,9 @@ pub record NamePut (q p : Place) (s t t' : List ℕ) : Type 0 where
   pub text : q.text ≡ p.text + length s
   pub bytes : t' ≡ stored t p.text s
 
-abbrev pub NameAnswer : Wrote → Place → (s t t' : List ℕ) → Type 0
-NameAnswer (Done q) p s t t' = NamePut q p s t t'
-NameAnswer Full p s t t' = p.text + length s ≤ length t → ⊥
+abbrev pub NameAnswer : Option Place → Place → (s t t' : List ℕ) → Type 0
+NameAnswer (Some q) p s t t' = NamePut q p s t t'
+NameAnswer None p s t t' = p.text + length s ≤ length t → ⊥
 
 -- rule i of the words rs has its name in a text of n bytes, and there is room for its words in os
 pub record RuleReady (rs : List ℕ) (i n : ℕ) (os : List ℕ) : Type 0 where
@@ -136,9 +134,9 @@ pub record RuleKept (q p : Place) (i y : ℕ) (s : Bytes) (e : E) (os os' o o' t
   pub words : take (q.rows * row_width) o' ≡ take (p.rows * row_width) o ++ flat (packed (p.text + length s) e)
   pub bytes : take q.text t' ≡ take p.text t ++ (s ++ text_of e)
 
-abbrev pub RuleAnswer : Wrote → Place → (i y : ℕ) → Bytes → E → (os os' o o' t t' : List ℕ) → Type 0
-RuleAnswer (Done q) p i y s e os os' o o' t t' = RuleKept q p i y s e os os' o o' t t'
-RuleAnswer Full p i y s e os os' o o' t t' = RuleFits p s e o t → ⊥
+abbrev pub RuleAnswer : Option Place → Place → (i y : ℕ) → Bytes → E → (os os' o o' t t' : List ℕ) → Type 0
+RuleAnswer (Some q) p i y s e os os' o o' t t' = RuleKept q p i y s e os os' o o' t t'
+RuleAnswer None p i y s e os os' o o' t t' = RuleFits p s e o t → ⊥
 
 -- a table stands in lent words and text
 pub record Holds (t : Table Span) (rs ws : List ℕ) (text : Bytes) : Type 0 where
@@ -176,6 +174,6 @@ pub record Front (q : Place) (t : Table Bytes) (os o s : List ℕ) : Type 0 wher
   pub bytes : take q.text s ≡ table_text t
 
 -- the answer of a pass: the new table stands in front, or does not fit
-abbrev pub PassAnswer : Wrote → Table Bytes → (os o s os' o' s' : List ℕ) → Type 0
-PassAnswer (Done q) t os o s os' o' s' = Front q t os' o' s'
-PassAnswer Full t os o s os' o' s' = TableFits t os o s → ⊥
+abbrev pub PassAnswer : Option Place → Table Bytes → (os o s os' o' s' : List ℕ) → Type 0
+PassAnswer (Some q) t os o s os' o' s' = Front q t os' o' s'
+PassAnswer None t os o s os' o' s' = TableFits t os o s → ⊥

@@ -18,8 +18,7 @@ use grammar::{
     ATOMIC, CHOICE, LENGTH, PAIR, REP, REP_MIN_MAX, REP_ONCE, ROW_WIDTH, ROWS, RULE_WIDTH, SEQ,
     TYPE,
 };
-use rows::{Lookup, wide};
-use writing::{Place, Wrote};
+use writing::Place;
 
 // The steps by number.
 pub const ROTATE_STEP: u32 = 1;
@@ -42,44 +41,16 @@ fn fires(step: u32, kind: u32, rows: &[u32], text: &[u8], i: usize) -> bool
     requires stands { Stands rows.now i }
     ensures { result ≡ false → (look : Table Bytes) (x : Expr Span) → At rows.now i x → node_of step look kind (resolve text.now x) ≡ resolve text.now x }
 {
-    let k = rows[i * ROW_WIDTH];
+    let k = rows::kind_at(rows, i);
     match step {
-        ROTATE_STEP => {
-            if k / 2 != PAIR {
-                return false;
-            }
-            rotator::fires(rows, i)
-        }
-        SKIP_STEP => {
-            if k != REP {
-                return false;
-            }
-            skipper::fires(rows, i)
-        }
-        UNROLL_STEP => {
-            if k < REP_ONCE {
-                return false;
-            }
-            k <= REP_MIN_MAX
-        }
-        CONCATENATE_STEP => {
-            if k != SEQ {
-                return false;
-            }
-            concatenator::fires(rows, i)
-        }
+        ROTATE_STEP => k / 2 == PAIR && rotator::fires(rows, i),
+        SKIP_STEP => k == REP && skipper::fires(rows, i),
+        UNROLL_STEP => REP_ONCE <= k && k <= REP_MIN_MAX,
+        CONCATENATE_STEP => k == SEQ && concatenator::fires(rows, i),
         FACTOR_STEP => {
-            if k != CHOICE {
-                return false;
-            }
-            factorizer::fires(rows, text, i, factorizer::tight_rule(kind))
+            k == CHOICE && factorizer::fires(rows, text, i, factorizer::tight_rule(kind))
         }
-        LIST_STEP => {
-            if k != SEQ {
-                return false;
-            }
-            lister::fires(rows, text, i)
-        }
+        LIST_STEP => k == SEQ && lister::fires(rows, text, i),
         // restore looks by itself
         _ => true,
     }
@@ -89,14 +60,7 @@ fn fires(step: u32, kind: u32, rows: &[u32], text: &[u8], i: usize) -> bool
 fn spares(step: u32, kind: u32) -> bool
     ensures { (result ≡ true → (look : Table Bytes) (e : E) → step_of step look kind e ≡ e) × (result ≡ false → (step ≡ skip_step → kind ≡ Atomic) × (step ≡ concatenate_step → kind ≡ Atomic)) }
 {
-    if kind == ATOMIC {
-        return false;
-    }
-    match step {
-        SKIP_STEP => true,
-        CONCATENATE_STEP => true,
-        _ => false,
-    }
+    kind != ATOMIC && (step == SKIP_STEP || step == CONCATENATE_STEP)
 }
 
 // Whether no row of the subtree of row `root`, whose first is row `start`, fires.
@@ -106,12 +70,10 @@ fn quiet(step: u32, kind: u32, rows: &[u32], text: &[u8], start: usize, root: us
     requires root_value { root + 1 ≡ start + size_at rows.now root }
     ensures { result ≡ true → (look : Table Bytes) (r : Expr Span) → At rows.now root r → (j : ℕ) → root < j + size r → j ≤ root → (x : Expr Span) → At rows.now j x → node_of step look kind (resolve text.now x) ≡ resolve text.now x }
 {
-    let mut i = start;
-    while i <= root {
+    for i in start..root + 1 {
         if fires(step, kind, rows, text, i) {
             return false;
         }
-        i += 1;
     }
     true
 }
@@ -123,10 +85,7 @@ fn still(step: u32, kind: u32, rows: &[u32], text: &[u8], start: usize, root: us
     requires root_value { root + 1 ≡ start + size_at rows.now root }
     ensures { result ≡ true → Leaves step kind rows.now text.now root }
 {
-    if spares(step, kind) {
-        return true;
-    }
-    quiet(step, kind, rows, text, start, root)
+    spares(step, kind) || quiet(step, kind, rows, text, start, root)
 }
 
 // The first rule from rule `from` on, at row `start`, that the rows do not show as left as it is by a step; or the number of rules.
@@ -148,15 +107,13 @@ pub fn first_fired(
     }
     let count = rules.len() / RULE_WIDTH;
     let mut begin = start;
-    let mut i = from;
-    while i < count {
+    for i in from..count {
         let at = i * RULE_WIDTH;
-        let end = begin + wide(rules[at + ROWS]);
+        let end = begin + rules[at + ROWS] as usize;
         if !still(step, rules[at + TYPE], rows, text, begin, end - 1) {
             return i;
         }
         begin = end;
-        i += 1;
     }
     count
 }
@@ -176,7 +133,7 @@ pub fn walk(
     out: &mut [u32],
     lits: &mut [u8],
     p: Place,
-) -> Wrote
+) -> Option<Place>
     requires inside { Inside rows.now (length text.now) }
     requires stands { Stands rows.now root }
     requires room { Room p out.old lits.old }
@@ -184,15 +141,7 @@ pub fn walk(
     ensures { (gs : Table Span) (r : Expr Span) → Lent gs heads0.now rows0.now → At rows.now root r → StepAnswer result p (step_of step (resolve_table text0.now gs) kind (resolve text.now r)) out.old out.new lits.old lits.new }
 {
     // a step begins at a row that is there
-    let Lookup::Row {
-        kind: _,
-        x: _,
-        y: _,
-        size: _,
-    } = rows::row_at(rows, root)
-    else {
-        return Wrote::Full;
-    };
+    rows::row_at(rows, root)?;
     match step {
         ROTATE_STEP => rotator::rotate(rows, text, root, out, lits, p),
         SKIP_STEP => skipper::skip(
@@ -223,7 +172,7 @@ pub fn stepped(
     out: &mut [u32],
     lits: &mut [u8],
     p: Place,
-) -> Wrote
+) -> Option<Place>
     requires inside { Inside rows.now (length text.now) }
     requires stands { Stands rows.now root }
     requires room { Room p out.old lits.old }
@@ -240,27 +189,27 @@ pub fn stepped(
 }
 
 // Writes n bytes of a text at p.
-fn put_bytes(text: &[u8], x: usize, n: usize, lits: &mut [u8], p: Place) -> Wrote
+fn put_bytes(text: &[u8], x: usize, n: usize, lits: &mut [u8], p: Place) -> Option<Place>
     requires { (x + n ≤ length text.now) × (p.text ≤ length lits.old) }
     ensures { NameAnswer result p (bytes_at text.now (x, n)) lits.old lits.new }
 {
     let from = p.text;
     if lits.len() - from < n {
-        return Wrote::Full;
+        return None;
     }
     writing::copy_bytes(text, x, n, lits, from);
-    Wrote::Done(Place {
+    Some(Place {
         rows: p.rows,
         text: from + n,
     })
 }
 
 // Writes a rule's name, of n bytes, at p.
-fn put_name(text: &[u8], x: u32, n: u32, lits: &mut [u8], p: Place) -> Wrote
+fn put_name(text: &[u8], x: u32, n: u32, lits: &mut [u8], p: Place) -> Option<Place>
     requires { (x + n ≤ length text.now) × (p.text ≤ length lits.old) }
     ensures { NameAnswer result p (bytes_at text.now (x, n)) lits.old lits.new }
 {
-    put_bytes(text, wide(x), wide(n), lits, p)
+    put_bytes(text, x as usize, n as usize, lits, p)
 }
 
 // Writes the words of rule i: its name of n bytes at x, its type and its rows. As many as a row has.
@@ -288,7 +237,7 @@ pub fn one_rule(
     out: &mut [u32],
     lits: &mut [u8],
     p: Place,
-) -> Wrote
+) -> Option<Place>
     requires inside { Inside rows.now (length text.now) }
     requires stands { Stands rows.now root }
     requires room { Room p out.old lits.old }
@@ -301,21 +250,17 @@ pub fn one_rule(
     let x = rules[at];
     let n = rules[at + LENGTH];
     let kind = rules[at + TYPE];
-    let Wrote::Done(q) = put_name(text, x, n, lits, p) else {
-        return Wrote::Full;
-    };
-    let Wrote::Done(s) = stepped(
+    let q = put_name(text, x, n, lits, p)?;
+    let s = stepped(
         step, kind, heads0, rows0, text0, marks, rows, text, i, root, known, out, lits, q,
-    ) else {
-        return Wrote::Full;
-    };
+    )?;
     let size = s.rows - p.rows;
     set_rule(heads, i, p.text as u32, n, kind, size as u32);
-    Wrote::Done(s)
+    Some(s)
 }
 
 // A step on every rule of the lent table, of which the first `stay` are known to be left as they are: the new table packed in front of the three areas, or
-// Full where it does not fit.
+// None where it does not fit.
 pub fn pass(
     step: u32,
     heads0: &[u32],
@@ -329,7 +274,7 @@ pub fn pass(
     out: &mut [u32],
     lits: &mut [u8],
     stay: usize,
-) -> Wrote
+) -> Option<Place>
     requires passing { Passing step heads0.now rows0.now text0.now marks.now rules.now rows.now text.now heads.old out.old lits.old }
     requires leaves_from { LeavesFrom step rules.now rows.now text.now 0 stay }
     requires rules_in_bounds { length rules.now ≤ length heads.old }
@@ -341,10 +286,9 @@ pub fn pass(
     // the rules before this one, from rule i on, are known to stay as they are
     let mut next = stay;
     let mut end: usize = 0;
-    let mut i: usize = 0;
-    while i < count {
-        end += wide(rules[i * RULE_WIDTH + ROWS]);
-        let Wrote::Done(q) = one_rule(
+    for i in 0..count {
+        end += rules[i * RULE_WIDTH + ROWS] as usize;
+        p = one_rule(
             step,
             heads0,
             rows0,
@@ -360,14 +304,10 @@ pub fn pass(
             out,
             lits,
             p,
-        ) else {
-            return Wrote::Full;
-        };
-        p = q;
+        )?;
         if i == next {
             next = first_fired(step, rules, rows, text, i + 1, end);
         }
-        i += 1;
     }
-    Wrote::Done(p)
+    Some(p)
 }

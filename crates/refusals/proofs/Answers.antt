@@ -1,10 +1,13 @@
 -- What the whole call answers after a check: its refusal, or the rest of the work on the table that stands there. Assumes nothing.
+use Rattle.std.specs.Prelude.{Err}
 use mathlib.Core.Path.{◌≡◌, refl, sym, ap}
 use mathlib.Core.Bool.{Bool, true, false, cond}
 use mathlib.Core.List.{List}
 use mathlib.Core.Option.{Option, none, some}
 use Prim.Native.Nat.{ℕ, ◌<◌}
 use native.Mathlib.Omega.{arith}
+use Rattle.grammar.specs.Numbers.{number_of}
+use Rattle.grammar.specs.declared.Refusal.{Refusal}
 use Rattle.grammar.specs.Basic.{Bytes}
 use Rattle.grammar.specs.Rows.{Span}
 use Rattle.grammar.specs.Table.{Table, Words, resolve_table}
@@ -12,7 +15,6 @@ use Rattle.grammar.specs.Reading.{read_table, input_kinds}
 use Rattle.grammar.specs.Refusals.{bad_counts, bad_text, bad_names, zero_counts, meets}
 use Rattle.grammar.specs.Optimize.{Result, refused, refuse_if, stages, finish, of_table, of_read, of_words}
 use Rattle.refusals.specs.Check.{lowest_named, lowest_read, lowest, Passed, Checked}
-use Rattle.refusals.specs.declared.Verdict.TheVariants.{Refused}
 
 -- two of them in order
 in_order : (a : Bool) (m k n : ℕ) (r : Result) → n ≡ cond a m k → (n ≡ k → r ≡ refused n) → refuse_if a m r ≡ refused n
@@ -29,10 +31,11 @@ of_read_lem text none n p e = ap refused (sym e)
 of_read_lem text (some t) n p e = in_order (bad_text text t) 4 (lowest_named (resolve_table text t)) n _ e (λ q. of_table_lem (resolve_table text t) n p q)
 
 -- a refusal's number is that of the whole call
-pub call_refused : (w : Words) (n : ℕ) (marks : List ℕ) → Checked (Refused n) w marks → of_words w ≡ refused n
+pub call_refused : (w : Words) (r : Refusal) (marks : List ℕ) → Checked (Err r) w marks → of_words w ≡ refused (number_of r)
 unfolding of_words lowest
-call_refused w n marks c =
-    let p : 0 < n = omega (arith, c.refused n refl) in
+call_refused w r marks c =
+    let n : ℕ = number_of r in
+    let p : 0 < n = omega (arith, c.refused r refl) in
     in_order (bad_counts w) 2 (lowest_read w.text (read_table input_kinds w.rules w.rows)) n _ c.number (λ q. of_read_lem w.text (read_table input_kinds w.rules w.rows) n p q)
 
 -- where nothing is refused, the whole call is what is left: refusal 7, then the steps

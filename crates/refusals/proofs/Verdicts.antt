@@ -1,4 +1,5 @@
 -- From the tests over words to the number that the definitions give, and to what holds of a table that is not refused. Assumes nothing.
+use Rattle.std.specs.Prelude.{⊤, Result, Ok, Err}
 use mathlib.Core.Path.{◌≡◌, refl, sym, ap, ap₂, subst, ◌∙◌}
 use mathlib.Core.Bool.{Bool, true, false, ◌||◌, not}
 use mathlib.Core.List.{List}
@@ -9,7 +10,9 @@ use native.Mathlib.Omega.{arith}
 use borrow.Author.Tests.{not-false, eqb-true, ltb-false}
 use lib.Dec.{eqb, ltb}
 use lib.ListN.{length}
-use Rattle.grammar.specs.Numbers.{rule_width, row_width}
+use Rattle.grammar.specs.Numbers.{rule_width, row_width, number_of}
+use Rattle.grammar.specs.declared.Refusal.{Refusal}
+use Rattle.grammar.specs.declared.Refusal.TheVariants.{Size, Shape, Text}
 use Rattle.grammar.specs.Basic.{Bytes}
 use Rattle.grammar.specs.Table.{Table, Words, row_count, resolve_table}
 use Rattle.grammar.specs.Reading.{read_table, input_kinds}
@@ -21,8 +24,6 @@ use Rattle.names.proofs.Finding.{rule_count, rows_before_all, length_rows}
 use Rattle.refusals.specs.Local.{up_to, IsTable}
 use Rattle.refusals.specs.Bytes.{any_four, bad_name, bad_row, zero_row, NamesFine}
 use Rattle.refusals.specs.Check.{lent, lowest_named, lowest_read, lowest, NamesChecked, Checked}
-use Rattle.refusals.specs.declared.Verdict.{Verdict}
-use Rattle.refusals.specs.declared.Verdict.TheVariants.{Fine, Refused}
 use Rattle.refusals.proofs.Fours.{neither_left, neither_right}
 use Rattle.refusals.proofs.Texts.{zeros_are, bads_are, names_inside, rows_inside}
 use Rattle.refusals.proofs.Apart.{names_fine, fine_names}
@@ -35,19 +36,16 @@ not_some : {A : Type 0} (o : Option A) → ((a : A) → o ≡ some a → ⊥) �
 not_some none f = refl
 not_some (some a) f = absurd (f a refl)
 
-refused_not_fine : {P : Type 0} (n : ℕ) → Refused n ≡ Fine → P
-refused_not_fine n e = let z : ◌≡◌ {A = ℕ} 0 1 = cc in absurd (omega arith)
-
 module _ (rules rows : List ℕ) (text : Bytes) where
   abbrev w : Words
   w = lent rules rows text
 
-  refused : (n : ℕ) (marks : List ℕ) → 2 ≤ n → n ≡ lowest w → Checked (Refused n) w marks
-  refused n marks l e = record { number = e; refused = λ m q. let z : n ≡ m = cc in omega arith; fine = refused_not_fine n }
+  refused : (r : Refusal) (marks : List ℕ) → 2 ≤ number_of r → number_of r ≡ lowest w → Checked (Err r) w marks
+  refused r marks l e = record { number = e; refused = λ s q. let z : r ≡ s = cc in rw z at l; fine = λ q. absurd (cc) }
 
-  pub refused_2 : (marks : List ℕ) → bad_counts w ≡ true → Checked (Refused 2) w marks
+  pub refused_2 : (marks : List ℕ) → bad_counts w ≡ true → Checked (Err Size) w marks
   unfolding lowest
-  refused_2 marks c = refused 2 marks (omega arith) (rw c)
+  refused_2 marks c = refused Size marks (omega arith) (rw c)
 
   -- what counts that are not refused say
   pub record Counts : Type 0 where
@@ -76,11 +74,11 @@ module _ (rules rows : List ℕ) (text : Bytes) where
       }
 
   module _ (c : bad_counts w ≡ false) where
-    pub refused_3 : (marks : List ℕ) → (IsTable (up_to 18) rules rows → ⊥) → Checked (Refused 3) w marks
+    pub refused_3 : (marks : List ℕ) → (IsTable (up_to 18) rules rows → ⊥) → Checked (Err Shape) w marks
     unfolding lowest lowest_read
     refused_3 marks f =
         let e : read_table input_kinds rules rows ≡ none = not_some (read_table input_kinds rules rows) (λ t r. f (record { table = t; read = r })) in
-        refused 3 marks (omega arith) (rw (c, e))
+        refused Shape marks (omega arith) (rw (c, e))
 
     module _ (t : IsTable (up_to 18) rules rows) where
       of : TableOf input_kinds rules rows t.table
@@ -102,11 +100,11 @@ module _ (rules rows : List ℕ) (text : Bytes) where
           let k : length rows ≡ row_count t.table * row_width = ap length (sym of.rows) ∙ length_rows t.table in
           rw n (omega (arith, (counts c).rows_most))
 
-      pub refused_4 : (marks : List ℕ) (b : Bool) → b ≡ (any_four (bad_name text) rules || any_four (bad_row text) rows) → b ≡ true → Checked (Refused 4) w marks
+      pub refused_4 : (marks : List ℕ) (b : Bool) → b ≡ (any_four (bad_name text) rules || any_four (bad_row text) rows) → b ≡ true → Checked (Err Text) w marks
       unfolding lowest lowest_read
       refused_4 marks b e h =
           let q : bad_text text t.table ≡ true = bad_is ∙ sym e ∙ h in
-          refused 4 marks (omega arith) (rw (c, t.read, q))
+          refused Text marks (omega arith) (rw (c, t.read, q))
 
       module _ (b : Bool) (e : b ≡ (any_four (bad_name text) rules || any_four (bad_row text) rows)) (h : b ≡ false) where
         clean : (any_four (bad_name text) rules || any_four (bad_row text) rows) ≡ false
@@ -140,11 +138,11 @@ module _ (rules rows : List ℕ) (text : Bytes) where
         unfolding lowest_named
         lowest_none f z = let q : zero_counts resolved ≡ false = zero_is ∙ z in rw (fine_is f, q)
 
-        pub checked : (v : Verdict) (marks : List ℕ) → NamesChecked v rules rows text marks → Checked v w marks
-        checked Fine marks k =
+        pub checked : (v : Result ⊤ Refusal) (marks : List ℕ) → NamesChecked v rules rows text marks → Checked v w marks
+        checked (Ok v) marks k =
             record {
               number = lowest_none k.0 k.1 ∙ sym lowest_is;
-              refused = λ n q. refused_not_fine n (sym q);
+              refused = λ r q. absurd (cc);
               fine = λ _. record {
                 table = t.table;
                 read = t.read;
@@ -157,5 +155,5 @@ module _ (rules rows : List ℕ) (text : Bytes) where
                 ended = k.3;
               };
             }
-        checked (Refused n) marks (inl k) = refused n marks (omega (arith, k.0)) (lowest_names n k.0 k.1 ∙ sym lowest_is)
-        checked (Refused n) marks (inr k) = refused n marks (omega (arith, k.0)) (lowest_zero n k.0 k.1 k.2 ∙ sym lowest_is)
+        checked (Err r) marks (inl k) = refused r marks (omega (arith, k.0)) (lowest_names (number_of r) k.0 k.1 ∙ sym lowest_is)
+        checked (Err r) marks (inr k) = refused r marks (omega (arith, k.0)) (lowest_zero (number_of r) k.0 k.1 k.2 ∙ sym lowest_is)

@@ -1,7 +1,8 @@
 -- What a check of a lent table answers: the lowest of refusals 2 to 6 that holds, or that none does and what stands there. Assumes nothing.
-use Rattle.std.specs.Prelude.{◌≡◌, true, false, cond, ◌⊎◌, List, [], ℕ, ◌≤◌, length}
+use Rattle.std.specs.Prelude.{◌≡◌, true, false, cond, ◌⊎◌, ⊤, List, [], ℕ, ◌≤◌, length, Result, Ok, Err}
 use Rattle.std.proofs.Math.Option.{Option, none, some}
-use Rattle.grammar.specs.Numbers.{refused_text}
+use Rattle.grammar.specs.Numbers.{refused_text, number_of, number_in}
+use Rattle.grammar.specs.declared.Refusal.{Refusal}
 use Rattle.grammar.specs.Basic.{Bytes, or_else}
 use Rattle.grammar.specs.Rows.{Span}
 use Rattle.grammar.specs.Table.{Table, Words, resolve_table}
@@ -10,8 +11,6 @@ use Rattle.grammar.specs.Refusals.{bad_counts, bad_text, bad_names, zero_counts}
 use Rattle.rows.specs.Rows.{Inside}
 use Rattle.names.specs.Names.{AllIndexed, Ended}
 use Rattle.refusals.specs.Bytes.{any_four, zero_row, NamesFine}
-use Rattle.refusals.specs.declared.Verdict.{Verdict}
-use Rattle.refusals.specs.declared.Verdict.TheVariants.{Fine, Refused}
 
 abbrev pub lent : List ℕ → List ℕ → Bytes → Words
 lent rules rows text = record { rules = rules; rows = rows; text = text }
@@ -34,15 +33,10 @@ lowest w = cond (bad_counts w) 2 (lowest_read w.text (read_table input_kinds w.r
 abbrev pub table_of : Words → Table Bytes
 table_of w = resolve_table w.text (or_else (read_table input_kinds w.rules w.rows) [])
 
--- document 01's number of each answer
-abbrev pub number_of : Verdict → ℕ
-number_of Fine = 0
-number_of (Refused n) = n
-
 -- refusals 5 and 6 over words: the answer of a check that comes after refusals 2 to 4
-abbrev pub NamesChecked : Verdict → List ℕ → List ℕ → Bytes → List ℕ → Type 0
-NamesChecked Fine rules rows text marks = NamesFine rules text × (any_four zero_row rows ≡ false) × AllIndexed rules text marks × Ended rules marks
-NamesChecked (Refused n) rules rows text marks = ((n ≡ 5) × (NamesFine rules text → ⊥)) ⊎ ((n ≡ 6) × NamesFine rules text × (any_four zero_row rows ≡ true))
+abbrev pub NamesChecked : Result ⊤ Refusal → List ℕ → List ℕ → Bytes → List ℕ → Type 0
+NamesChecked (Ok v) rules rows text marks = NamesFine rules text × (any_four zero_row rows ≡ false) × AllIndexed rules text marks × Ended rules marks
+NamesChecked (Err r) rules rows text marks = ((number_of r ≡ 5) × (NamesFine rules text → ⊥)) ⊎ ((number_of r ≡ 6) × NamesFine rules text × (any_four zero_row rows ≡ true))
 
 -- what holds of a table that none of them refuses
 pub record Passed (w : Words) (marks : List ℕ) : Type 0 where
@@ -57,7 +51,7 @@ pub record Passed (w : Words) (marks : List ℕ) : Type 0 where
   pub ended : Ended w.rules marks
 
 -- the answer: its number is the lowest that holds, no refusal has a number below 2, and a fine table stands there
-pub record Checked (v : Verdict) (w : Words) (marks : List ℕ) : Type 0 where
-  pub number : number_of v ≡ lowest w
-  pub refused : (n : ℕ) → v ≡ Refused n → 2 ≤ n
-  pub fine : v ≡ Fine → Passed w marks
+pub record Checked (v : Result ⊤ Refusal) (w : Words) (marks : List ℕ) : Type 0 where
+  pub number : number_in v ≡ lowest w
+  pub refused : (r : Refusal) → v ≡ Err r → 2 ≤ number_of r
+  pub fine : v ≡ Ok tt → Passed w marks

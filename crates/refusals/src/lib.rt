@@ -1,7 +1,7 @@
 // Refusals 2 to 6 of a lent table: the lowest that holds, for any words and any text.
 #![tactic(auto)]
 
-ghost use Rattle.std.specs.Prelude.{◌≡◌, false, ◌||◌, ℕ, ◌+◌, ◌-◌, ◌*◌, ◌/◌, ◌%◌, ◌^◌, ◌≤◌, ◌<◌, length, take, drop, get_or, eqb};
+ghost use Rattle.std.specs.Prelude.{◌≡◌, Bool, false, ◌||◌, ℕ, ◌+◌, ◌-◌, ◌*◌, ◌/◌, ◌%◌, ◌^◌, ◌≤◌, ◌<◌, length, take, drop, get_or, eqb};
 ghost use Rattle.grammar.specs.Numbers.{rule_width, row_width, mark_width, k_str, k_restore_on_err};
 ghost use Rattle.grammar.specs.Basic.{member};
 ghost use Rattle.grammar.specs.Refusals.{bad_counts, bad_span, reserved, max_text, full_marks};
@@ -9,14 +9,14 @@ ghost use Rattle.rows.specs.Rows.{Tells, kind_at};
 ghost use Rattle.names.specs.Names.{name_of, rows_before, NamesInside, few_rules};
 ghost use Rattle.refusals.specs.Local.{up_to, uses_x, uses_y, unused_zero, OneFits, TwoFits, SkipFits, RowFits, IsTree, IsTable};
 ghost use Rattle.refusals.specs.Bytes.{any_four, bad_name, bad_row, zero_row, High, Indexed};
-ghost use Rattle.refusals.specs.Check.{lent, lowest, NamesChecked, Passed, Checked};
+ghost use Rattle.refusals.specs.Check.{lent, NamesChecked, Checked};
 
 use grammar::{
     IDENT, LAST_ASCII, LENGTH, MARK_WIDTH, NON_ATOMIC, PEEK_SLICE, PEEK_SLICE_END, POS_PRED, PUSH,
-    RANGE, REFUSED_COUNT, REFUSED_NAMES, REFUSED_SHAPE, REFUSED_SIZE, REFUSED_TEXT, REP_EXACT,
-    REP_MAX, REP_MIN_MAX, ROW_WIDTH, ROWS, RULE_WIDTH, SIZE, STR, TYPE, X, Y,
+    RANGE, REP_EXACT, REP_MAX, REP_MIN_MAX, ROW_WIDTH, ROWS, RULE_WIDTH, Refusal, SIZE, STR, TYPE,
+    X, Y,
 };
-use rows::{Lookup, Shape, wide};
+use rows::{Shape, wide};
 
 // Full size: 256 rules, 4,096 rows, 65,536 bytes of text.
 pub const FULL_RULES: usize = 256 * RULE_WIDTH;
@@ -37,32 +37,17 @@ const STRETCH: usize = 64;
 
 const LAST_OF_STRETCH: usize = 63;
 
-// What a check finds: nothing to refuse, or a refusal's number.
-#[derive(Clone, Copy)]
-pub enum Verdict {
-    Fine,
-    Refused(u32),
-}
-
 // ---- refusal 2
 
 // Refusal 2: a word count that is no multiple of four, or an input above full size.
 pub fn bad_counts(rules: &[u32], rows: &[u32], text: &[u8]) -> bool
     ensures { result ≡ bad_counts (lent rules.now rows.now text.now) }
 {
-    if rules.len() % RULE_WIDTH != 0 {
-        return true;
-    }
-    if rows.len() % ROW_WIDTH != 0 {
-        return true;
-    }
-    if FULL_RULES < rules.len() {
-        return true;
-    }
-    if FULL_ROWS < rows.len() {
-        return true;
-    }
-    FULL_TEXT < text.len()
+    rules.len() % RULE_WIDTH != 0
+        || rows.len() % ROW_WIDTH != 0
+        || FULL_RULES < rules.len()
+        || FULL_ROWS < rows.len()
+        || FULL_TEXT < text.len()
 }
 
 // ---- refusal 3
@@ -71,53 +56,30 @@ pub fn bad_counts(rules: &[u32], rows: &[u32], text: &[u8]) -> bool
 fn uses_x(kind: u32) -> bool
     ensures { result ≡ uses_x kind }
 {
-    if kind < POS_PRED {
-        return true;
-    }
-    if kind < REP_EXACT {
-        return false;
-    }
-    kind < PUSH
+    kind < POS_PRED || REP_EXACT <= kind && kind < PUSH
 }
 
 // Whether a kind's y means something.
 fn uses_y(kind: u32) -> bool
     ensures { result ≡ uses_y kind }
 {
-    if kind < PEEK_SLICE {
-        return true;
-    }
-    if kind == PEEK_SLICE_END {
-        return true;
-    }
-    kind == REP_MIN_MAX
+    kind < PEEK_SLICE || kind == PEEK_SLICE_END || kind == REP_MIN_MAX
 }
 
 // Whether x is 0 where its kind does not use it.
-fn x_fits(kind: u32, x: u32) -> bool
+fn x_fits(kind: u32, x: usize) -> bool
     ensures { result ≡ (eqb x 0 || uses_x kind) }
 {
-    if x == 0 {
-        return true;
-    }
-    uses_x(kind)
+    x == 0 || uses_x(kind)
 }
 
 // Whether the words that a kind does not use are 0.
-fn unused_zero(kind: u32, x: u32, y: u32) -> bool
+#[tactic(auto, unfolding(crate::specs::Local::unused_zero))]
+fn unused_zero(kind: u32, x: usize, y: usize) -> bool
     ensures { result ≡ unused_zero kind x y }
 {
     // a literal uses both
-    if kind < PEEK_SLICE {
-        return true;
-    }
-    if y == 0 {
-        return x_fits(kind, x);
-    }
-    if !uses_y(kind) {
-        return false;
-    }
-    x_fits(kind, x)
+    kind < PEEK_SLICE || (y == 0 || uses_y(kind)) && x_fits(kind, x)
 }
 
 // Whether a row of size n at i has one child before it.
@@ -128,7 +90,7 @@ fn one_fits(rows: &[u32], i: usize, n: usize) -> bool
     if i == 0 {
         return false;
     }
-    let child = wide(rows[(i - 1) * ROW_WIDTH + SIZE]);
+    let child = rows[(i - 1) * ROW_WIDTH + SIZE] as usize;
     n == child + 1
 }
 
@@ -140,11 +102,11 @@ fn two_fits(rows: &[u32], i: usize, n: usize) -> bool
     if i == 0 {
         return false;
     }
-    let right = wide(rows[(i - 1) * ROW_WIDTH + SIZE]);
+    let right = rows[(i - 1) * ROW_WIDTH + SIZE] as usize;
     if i <= right {
         return false;
     }
-    let left = wide(rows[(i - 1 - right) * ROW_WIDTH + SIZE]);
+    let left = rows[(i - 1 - right) * ROW_WIDTH + SIZE] as usize;
     n == left + right + 1
 }
 
@@ -153,12 +115,10 @@ fn strs(rows: &[u32], from: usize, to: usize) -> bool
     requires { (from ≤ to) × (to ≤ length rows.now / row_width) }
     ensures { Tells result ((j : ℕ) → from ≤ j → j < to → kind_at rows.now j ≡ k_str) }
 {
-    let mut j = from;
-    while j < to {
-        if rows[j * ROW_WIDTH] != STR {
+    for j in from..to {
+        if rows::kind_at(rows, j) != STR {
             return false;
         }
-        j += 1;
     }
     true
 }
@@ -168,13 +128,7 @@ fn skip_fits(rows: &[u32], i: usize, k: usize, n: usize) -> bool
     requires { i < length rows.now / row_width }
     ensures { Tells result (SkipFits rows.now i k n) }
 {
-    if i < k {
-        return false;
-    }
-    if n != k + 1 {
-        return false;
-    }
-    strs(rows, i - k, i)
+    k <= i && n == k + 1 && strs(rows, i - k, i)
 }
 
 // Whether row i is right, with kinds up to `most`.
@@ -182,27 +136,17 @@ fn row_fits(rows: &[u32], i: usize, most: u32) -> bool
     requires { i < length rows.now / row_width }
     ensures { Tells result (RowFits most rows.now i) }
 {
-    let Lookup::Row {
-        kind: k,
-        x: x,
-        y: y,
-        size: n,
-    } = rows::row_at(rows, i)
-    else {
-        return false;
-    };
-    if most < k {
+    let kind = rows::kind_at(rows, i);
+    let x = rows::x_at(rows, i);
+    if most < kind || !unused_zero(kind, x, rows::y_at(rows, i)) {
         return false;
     }
-    if !unused_zero(k, x, y) {
-        return false;
-    }
-    match rows::shape_of(k) {
-        Shape::Lit => n == 1,
-        Shape::Num => n == 1,
-        Shape::One => one_fits(rows, i, wide(n)),
-        Shape::Two => two_fits(rows, i, wide(n)),
-        Shape::Skips => skip_fits(rows, i, wide(x), wide(n)),
+    let n = rows::size_at(rows, i);
+    match rows::shape_of(kind) {
+        Shape::Lit | Shape::Num => n == 1,
+        Shape::One => one_fits(rows, i, n),
+        Shape::Two => two_fits(rows, i, n),
+        Shape::Skips => skip_fits(rows, i, x, n),
     }
 }
 
@@ -215,14 +159,12 @@ fn one_tree(rows: &[u32], most: u32) -> bool
     if count == 0 {
         return false;
     }
-    let mut i = 0;
-    while i < count {
+    for i in 0..count {
         if !row_fits(rows, i, most) {
             return false;
         }
-        i += 1;
     }
-    wide(rows[(count - 1) * ROW_WIDTH + SIZE]) == count
+    rows::size_at(rows, count - 1) == count
 }
 
 // Whether rows from..to are one tree's.
@@ -242,14 +184,13 @@ pub fn trees(rules: &[u32], rows: &[u32], most: u32) -> bool
 {
     let count = rules.len() / RULE_WIDTH;
     let total = rows.len() / ROW_WIDTH;
-    let mut i = 0;
     let mut from = 0;
-    while i < count {
+    for i in 0..count {
         let at = i * RULE_WIDTH;
         if rules[at + TYPE] > NON_ATOMIC {
             return false;
         }
-        let n = wide(rules[at + ROWS]);
+        let n = rules[at + ROWS] as usize;
         if total - from < n {
             return false;
         }
@@ -257,7 +198,6 @@ pub fn trees(rules: &[u32], rows: &[u32], most: u32) -> bool
             return false;
         }
         from += n;
-        i += 1;
     }
     from == total
 }
@@ -270,21 +210,12 @@ fn next_high(text: &[u8], p: usize, stop: usize, other: usize) -> usize
     requires high { High text.now stop other }
     ensures { High text.now p result }
 {
-    let mut i = p;
-    while i < stop {
+    for i in p..stop {
         if text[i] > LAST_BYTE {
             return i;
         }
-        i += 1;
     }
     other
-}
-
-// The larger of two bytes.
-fn larger(a: u8, b: u8) -> u8
-    ensures { (a ≤ result) × (b ≤ result) }
-{
-    if a < b { b } else { a }
 }
 
 // A byte that no byte from p to stop is above. No test in the loop: many bytes go at a time.
@@ -293,10 +224,8 @@ fn highest(text: &[u8], p: usize, stop: usize) -> u8
     ensures { (j : ℕ) → p ≤ j → j < stop → get_or text.now j 0 ≤ result }
 {
     let mut m: u8 = 0;
-    let mut i = p;
-    while i < stop {
-        m = larger(m, text[i]);
-        i += 1;
+    for i in p..stop {
+        m = m.max(text[i]);
     }
     m
 }
@@ -320,9 +249,7 @@ fn index_high(text: &[u8], marks: &mut [u32]) -> usize
 {
     let mut stop = text.len();
     let mut next = stop;
-    let mut b = (stop + LAST_OF_STRETCH) / STRETCH;
-    while 0 < b {
-        b -= 1;
+    for b in (0..(stop + LAST_OF_STRETCH) / STRETCH).rev() {
         next = first_high(text, b * STRETCH, stop, next);
         marks[b] = next as u32;
         stop = b * STRETCH;
@@ -339,7 +266,7 @@ fn high_from(text: &[u8], marks: &[u32], x: usize) -> usize
     let b = x / STRETCH + 1;
     let at = b * STRETCH;
     if at < text.len() {
-        return next_high(text, x, at, wide(marks[b]));
+        return next_high(text, x, at, marks[b] as usize);
     }
     next_high(text, x, text.len(), text.len())
 }
@@ -350,14 +277,22 @@ fn bad_span(text: &[u8], marks: &[u32], first: usize, x: u32, n: u32) -> bool
     requires indexed { Indexed text.now marks.now }
     ensures { result ≡ bad_span text.now (x, n) }
 {
-    let end = wide(x) + wide(n);
-    if text.len() < end {
-        return true;
+    let end = x as usize + n as usize;
+    text.len() < end || first < end && high_from(text, marks, x as usize) < end
+}
+
+// Whether some rule or row passes a test of its first three words.
+fn any_four<F: Fn(u32, u32, u32) -> bool>(words: &[u32], test: F) -> bool
+    requires { F.IsAlwaysCallable test }
+    ensures { (p : ℕ → ℕ → ℕ → Bool) → ((a b c : ℕ) (r : Bool) → F.post test a b c r → r ≡ p a b c) → result ≡ any_four p words.now }
+{
+    for i in 0..words.len() / ROW_WIDTH {
+        let at = i * ROW_WIDTH;
+        if test(words[at], words[at + X], words[at + Y]) {
+            return true;
+        }
     }
-    if end <= first {
-        return false;
-    }
-    high_from(text, marks, wide(x)) < end
+    false
 }
 
 // Whether some name is refused.
@@ -366,19 +301,11 @@ fn bad_rules(rules: &[u32], text: &[u8], marks: &[u32], first: usize) -> bool
     requires indexed { Indexed text.now marks.now }
     ensures { result ≡ any_four (bad_name text.now) rules.now }
 {
-    let count = rules.len() / RULE_WIDTH;
-    let mut i = 0;
-    while i < count {
-        let at = i * RULE_WIDTH;
-        if bad_span(text, marks, first, rules[at], rules[at + LENGTH]) {
-            return true;
-        }
-        i += 1;
-    }
-    false
+    any_four(rules, |x, n, _| bad_span(text, marks, first, x, n))
 }
 
 // Whether a row's literal or Range is refused.
+#[tactic(auto, unfolding(crate::specs::Bytes::bad_row))]
 fn bad_row(text: &[u8], marks: &[u32], first: usize, kind: u32, x: u32, y: u32) -> bool
     requires high { High text.now 0 first }
     requires indexed { Indexed text.now marks.now }
@@ -388,10 +315,7 @@ fn bad_row(text: &[u8], marks: &[u32], first: usize, kind: u32, x: u32, y: u32) 
         return false;
     }
     if kind == RANGE {
-        if LAST_ASCII < x {
-            return true;
-        }
-        return LAST_ASCII < y;
+        return LAST_ASCII < x || LAST_ASCII < y;
     }
     bad_span(text, marks, first, x, y)
 }
@@ -402,16 +326,7 @@ fn bad_rows(rows: &[u32], text: &[u8], marks: &[u32], first: usize) -> bool
     requires indexed { Indexed text.now marks.now }
     ensures { result ≡ any_four (bad_row text.now) rows.now }
 {
-    let count = rows.len() / ROW_WIDTH;
-    let mut i = 0;
-    while i < count {
-        let at = i * ROW_WIDTH;
-        if bad_row(text, marks, first, rows[at], rows[at + X], rows[at + Y]) {
-            return true;
-        }
-        i += 1;
-    }
-    false
+    any_four(rows, |kind, x, y| bad_row(text, marks, first, kind, x, y))
 }
 
 // Refusal 4: some name or literal is not in the text or not ASCII, or some Range is not.
@@ -420,10 +335,7 @@ pub fn bad_text(rules: &[u32], rows: &[u32], text: &[u8], marks: &mut [u32]) -> 
     ensures { result ≡ (any_four (bad_name text.now) rules.now || any_four (bad_row text.now) rows.now) }
 {
     let first = index_high(text, marks);
-    if bad_rules(rules, text, marks, first) {
-        return true;
-    }
-    bad_rows(rows, text, marks, first)
+    bad_rules(rules, text, marks, first) || bad_rows(rows, text, marks, first)
 }
 
 // ---- refusal 5
@@ -435,7 +347,7 @@ fn name_reserved(rules: &[u32], text: &[u8], i: usize) -> bool
     ensures { result ≡ member (name_of rules.now text.now i) reserved }
 {
     let at = i * RULE_WIDTH;
-    names::reserved(text, wide(rules[at]), wide(rules[at + LENGTH]))
+    names::reserved(text, rules[at] as usize, rules[at + LENGTH] as usize)
 }
 
 // Whether no name is reserved.
@@ -444,12 +356,10 @@ fn none_reserved(rules: &[u32], text: &[u8]) -> bool
     ensures { Tells result ((i : ℕ) → i < length rules.now / rule_width → member (name_of rules.now text.now i) reserved ≡ false) }
 {
     let count = rules.len() / RULE_WIDTH;
-    let mut i = 0;
-    while i < count {
+    for i in 0..count {
         if name_reserved(rules, text, i) {
             return false;
         }
-        i += 1;
     }
     true
 }
@@ -457,88 +367,60 @@ fn none_reserved(rules: &[u32], text: &[u8]) -> bool
 // ---- refusal 6
 
 // Whether a row is a repeat of at most 0 times.
+#[tactic(auto, unfolding(crate::specs::Bytes::zero_row))]
 fn zero_row(kind: u32, x: u32, y: u32) -> bool
     ensures { result ≡ zero_row kind x y }
 {
-    // nearly every row
-    if kind < REP_EXACT {
-        return false;
+    match kind {
+        REP_EXACT | REP_MAX => x == 0,
+        REP_MIN_MAX => y == 0,
+        _ => false,
     }
-    if kind == REP_EXACT {
-        return x == 0;
-    }
-    if kind == REP_MAX {
-        return x == 0;
-    }
-    if kind == REP_MIN_MAX {
-        return y == 0;
-    }
-    false
 }
 
 // Refusal 6: some row is a repeat of at most 0 times.
 pub fn zero_counts(rows: &[u32]) -> bool
     ensures { result ≡ any_four zero_row rows.now }
 {
-    let count = rows.len() / ROW_WIDTH;
-    let mut i = 0;
-    while i < count {
-        let at = i * ROW_WIDTH;
-        if zero_row(rows[at], rows[at + X], rows[at + Y]) {
-            return true;
-        }
-        i += 1;
-    }
-    false
+    any_four(rows, zero_row)
 }
 
 // ---- the check
 
 // Refusals 5 and 6 of a table that can be read and whose names and literals are right. The marks then hold the index of names and the rules' ends.
-fn check_names(rules: &[u32], rows: &[u32], text: &[u8], marks: &mut [u32]) -> Verdict
+fn check_names(rules: &[u32], rows: &[u32], text: &[u8], marks: &mut [u32]) -> Result<(), Refusal>
     requires names_inside { NamesInside rules.now (length text.now) }
     requires mark_width_in_bounds { (length rules.now / rule_width * mark_width ≤ length marks.old) × (length rules.now / rule_width < few_rules) × (length text.now ≤ max_text) × (rows_before rules.now (length rules.now / rule_width) < 2 ^ 32) }
     ensures { NamesChecked result rules.now rows.now text.now marks.new }
 {
     if !names::index_names(rules, text, marks) {
-        return Verdict::Refused(REFUSED_NAMES);
+        return Err(Refusal::Names);
     }
     if !none_reserved(rules, text) {
-        return Verdict::Refused(REFUSED_NAMES);
+        return Err(Refusal::Names);
     }
     if zero_counts(rows) {
-        return Verdict::Refused(REFUSED_COUNT);
+        return Err(Refusal::Count);
     }
     names::mark_ends(rules, marks);
-    Verdict::Fine
+    Ok(())
 }
 
 // Refusals 2 to 6: the lowest that holds. Where none does, a table stands there, and the marks hold the index of its names and its rules' ends.
 // Each row is read three times, each byte once or twice, each name compared with one other, and a literal past a byte above 127 costs at most 64
 // bytes more.
-pub fn check(rules: &[u32], rows: &[u32], text: &[u8], marks: &mut [u32]) -> Verdict
+pub fn check(rules: &[u32], rows: &[u32], text: &[u8], marks: &mut [u32]) -> Result<(), Refusal>
     requires { full_marks ≤ length marks.old }
     ensures { Checked result (lent rules.now rows.now text.now) marks.new }
 {
     if bad_counts(rules, rows, text) {
-        return Verdict::Refused(REFUSED_SIZE);
+        return Err(Refusal::Size);
     }
     if !trees(rules, rows, PUSH) {
-        return Verdict::Refused(REFUSED_SHAPE);
+        return Err(Refusal::Shape);
     }
     if bad_text(rules, rows, text, marks) {
-        return Verdict::Refused(REFUSED_TEXT);
+        return Err(Refusal::Text);
     }
     check_names(rules, rows, text, marks)
-}
-
-// The lowest of refusals 2 to 6 that a table meets, 0 where there is none.
-pub fn refusal(rules: &[u32], rows: &[u32], text: &[u8], marks: &mut [u32]) -> u32
-    requires { full_marks ≤ length marks.old }
-    ensures { (result ≡ lowest (lent rules.now rows.now text.now)) × (result ≡ 0 → Passed (lent rules.now rows.now text.now) marks.new) }
-{
-    match check(rules, rows, text, marks) {
-        Verdict::Refused(n) => n,
-        Verdict::Fine => 0,
-    }
 }

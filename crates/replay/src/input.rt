@@ -1,135 +1,106 @@
 // Reading cases.
-ghost use Rattle.std.specs.Prelude.{◌≡◌, ◌+◌, ◌*◌, ◌≤◌, length};
-ghost use Rattle.areas.specs.Counts.{IsPrefixLen};
-ghost use Rattle.replay.specs.Run.{Counted};
+use areas::{ROWS_AREA, RULES_AREA, Table};
+use std::io;
+use std::io::{ErrorKind, Read, Stdin};
 
-use crate::streams::Streams;
-use areas::{ROWS_AREA, RULES_AREA};
-
-// What a case may carry: 1,040 rule words, 16,400 row words and 65,600 bytes of text.
+// A case may carry 1,040 rule words, 16,400 row words and so many bytes of text.
 const TEXT: usize = 65600;
 
-pub const CASE_BYTES: usize = 135360;
-
 // What a case that is carried has behind its first four words always fits.
-pub fn area() -> [u8; CASE_BYTES] {
-    [0; CASE_BYTES]
+const CASE_BYTES: usize = 4 * RULES_AREA + 4 * ROWS_AREA + TEXT;
+
+// Standard input. A read that fails ends the cases as the input's end does; `close` gives its error.
+#[derive(Drop)]
+pub struct Input {
+    stdin: Stdin,
+    read: io::Result<()>,
 }
 
-// A case's first four words, if what they count is carried and there: `whole`; else zeros.
-#[derive(Clone, Copy)]
-pub struct Case {
-    pub rules: usize,
-    pub rows: usize,
-    pub text: usize,
-    pub short: u32,
-    pub whole: bool,
-}
-
-// The next case, what its words count in front of the area.
-pub fn next(streams: &mut Streams, b: &mut [u8]) -> Case
-    requires { 135360 ≤ length b.old }
-    ensures { Counted result }
-{
-    let c = head(streams, b);
-    let n = 4 * c.rules + 4 * c.rows + c.text;
-    if read(streams, b, n) { c } else { none() }
-}
-
-// Whether the next n bytes are there; then they stand in front of the area.
-pub fn read(streams: &mut Streams, b: &mut [u8], n: usize) -> bool
-    requires { n ≤ length b.old }
-{
-    streams.read(&mut b[..n])
-}
-
-fn head(streams: &mut Streams, b: &mut [u8]) -> Case
-    requires { 16 ≤ length b.old }
-    ensures { Counted result }
-{
-    if !read(streams, b, 16) {
-        return none();
+impl Input {
+    pub fn new(stdin: Stdin) -> Self {
+        Input {
+            stdin,
+            read: Ok(()),
+        }
     }
-    head_at(b)
-}
 
-fn head_at(b: &[u8]) -> Case
-    requires { 16 ≤ length b.now }
-    ensures { Counted result }
-{
-    head_of(
-        count(word_at(b, 0)),
-        count(word_at(b, 4)),
-        count(word_at(b, 8)),
-        word_at(b, 12),
-    )
-}
-
-fn head_of(rules: usize, rows: usize, text: usize, short: u32) -> Case
-    ensures { Counted result }
-{
-    if rules <= RULES_AREA {
-        if rows <= ROWS_AREA {
-            if text <= TEXT {
-                return Case {
-                    rules,
-                    rows,
-                    text,
-                    short,
-                    whole: true,
-                };
+    // Fills b; not where the input ends before, and not where a read fails.
+    fn fill(&mut self, b: &mut [u8]) -> Option<()> {
+        match self.stdin.read_exact(b) {
+            Ok(()) => Some(()),
+            Err(e) => {
+                if e.kind() != ErrorKind::UnexpectedEof {
+                    self.read = Err(e);
+                }
+                None
             }
         }
     }
-    none()
-}
 
-fn none() -> Case
-    ensures { Counted result }
-{
-    Case {
-        rules: 0,
-        rows: 0,
-        text: 0,
-        short: 0,
-        whole: false,
+    fn words(&mut self) -> Option<[u32; 4]> {
+        let mut b = [[0; 4]; 4];
+        self.fill(b.as_flattened_mut())?;
+        Some(b.map(u32::from_le_bytes))
+    }
+
+    // The next eight bytes as a number.
+    pub fn long(&mut self) -> Option<usize> {
+        let mut b = [0; 8];
+        self.fill(&mut b)?;
+        Some(usize::from_le_bytes(b))
+    }
+
+    pub fn close(self) -> io::Result<()> {
+        self.read
     }
 }
 
-pub fn count(w: u32) -> usize {
-    w as usize
+// The areas of one case: the bytes behind its first four words, and the words that they stand for.
+#[derive(Drop)]
+pub struct Case {
+    bytes: [u8; CASE_BYTES],
+    rules: [u32; RULES_AREA],
+    rows: [u32; ROWS_AREA],
 }
 
-// The n words from `from` on; the place after them.
-pub fn words(b: &[u8], from: usize, into: &mut [u32], n: usize) -> usize
-    requires n_in_bounds { from + 4 * n ≤ length b.now }
-    requires n_in_bounds_2 { n ≤ length into.old }
-    ensures value { result ≡ from + 4 * n }
-    ensures prefix_len { IsPrefixLen n into.new }
-{
-    let mut at = from;
-    let mut i = 0;
-    while i < n {
-        into[i] = word_at(b, at);
-        at += 4;
-        i += 1;
+impl Case {
+    pub fn new() -> Self {
+        Case {
+            bytes: [0; CASE_BYTES],
+            rules: [0; RULES_AREA],
+            rows: [0; ROWS_AREA],
+        }
     }
-    at
+
+    // The next case, its table and its fourth word; none, if it is cut off or counts more than is carried.
+    pub fn next(&mut self, input: &mut Input) -> Option<(Table<'_>, u32)> {
+        let [rules, rows, text, last] = input.words()?;
+        let (rules, rows, text) = (rules as usize, rows as usize, text as usize);
+        if rules > RULES_AREA || rows > ROWS_AREA || text > TEXT {
+            return None;
+        }
+        let Case {
+            bytes,
+            rules: rule_area,
+            rows: row_area,
+        } = self;
+        input.fill(&mut bytes[..4 * rules + 4 * rows + text])?;
+        let (rule_bytes, rest) = bytes.split_at(4 * rules);
+        let (row_bytes, rest) = rest.split_at(4 * rows);
+        decode(rule_bytes, rule_area);
+        decode(row_bytes, row_area);
+        let table = Table {
+            rules: &rule_area[..rules],
+            rows: &row_area[..rows],
+            text: &rest[..text],
+        };
+        Some((table, last))
+    }
 }
 
-pub fn word_at(b: &[u8], i: usize) -> u32
-    requires { i + 4 ≤ length b.now }
-{
-    wide(b[i]) | wide(b[i + 1]) << 8 | wide(b[i + 2]) << 16 | wide(b[i + 3]) << 24
-}
-
-// Eight bytes as a number.
-pub fn long_at(b: &[u8], i: usize) -> usize
-    requires { i + 8 ≤ length b.now }
-{
-    count(word_at(b, i)) | count(word_at(b, i + 4)) << 32
-}
-
-fn wide(b: u8) -> u32 {
-    b as u32
+// The words that the bytes stand for, to the front of an area.
+fn decode(bytes: &[u8], area: &mut [u32]) {
+    for (word, b) in area.iter_mut().zip(bytes.as_chunks().0) {
+        *word = u32::from_le_bytes(*b);
+    }
 }

@@ -18,149 +18,80 @@
 // A case that is cut off ends the run, and so does one with more than 1,040 rule words, 16,400 row words or 65,600 bytes of text.
 #![tactic(auto)]
 
+mod answers;
 mod compare;
 mod explain;
 mod input;
-mod output;
-mod streams;
+mod optimize;
 
-ghost use Rattle.std.specs.Prelude.{◌≤◌, length};
-ghost use Rattle.replay.specs.Run.{Counted};
-
-use areas::{ROWS_AREA, RULES_AREA};
-use input::{CASE_BYTES, Case};
-use output::ANSWERS;
+use answers::Answers;
+use areas::Lend;
+use input::{Case, Input};
 use std::io;
-use streams::Streams;
 
 // A tool's number is the fourth word by this.
 const TOOL: u32 = 1000;
 
-const COMPARE: u32 = 1;
+// What a case asks for, by its fourth word, and what is lent.
+#[derive(Clone, Copy, PartialEq, Eq)]
+enum Call {
+    Optimize(Lend),
+    Compare(Lend),
+    Explain(Lend),
+}
 
-const EXPLAIN: u32 = 2;
-
-// Where the run stands: the answers not yet written are [..put].
-#[derive(Clone, Copy)]
-struct State {
-    put: usize,
-    on: bool,
+impl From<u32> for Call {
+    fn from(last: u32) -> Self {
+        let lend = Lend::from(last % TOOL);
+        match last / TOOL {
+            1 => Call::Compare(lend),
+            2 => Call::Explain(lend),
+            _ => Call::Optimize(Lend::from(last)),
+        }
+    }
 }
 
 fn main(rt: HostRuntime) -> io::Result<()> {
-    let mut bytes = input::area();
-    let mut answers = output::area();
-    let mut streams = Streams::new(rt);
-    run(&mut streams, &mut bytes, &mut answers);
-    streams.close()
+    let mut input = Input::new(rt.stdin());
+    let mut answers = Answers::new(rt.stdout());
+    let written = run(&mut input, &mut answers);
+    input.close()?;
+    written
 }
 
-// All cases. A proved loop has to end, so it counts down from a number that no run uses up.
-fn run(streams: &mut Streams, bytes: &mut [u8; CASE_BYTES], answers: &mut [u8; ANSWERS]) {
-    let mut s = State { put: 0, on: true };
-    let mut turns = u64::MAX;
-    while turns > 0 && s.on {
-        s = turn(streams, bytes, answers, s.put);
-        turns -= 1;
+// All cases. A proved loop has to end, so it counts to a number that no run uses up.
+fn run(input: &mut Input, answers: &mut Answers) -> io::Result<()> {
+    let mut case = Case::new();
+    let mut more = Case::new();
+    for _ in 0..u64::MAX {
+        let Some(put) = turn(input, &mut case, &mut more, answers) else {
+            break;
+        };
+        put?;
     }
-    output::write(streams, answers, s.put);
+    answers.flush()
 }
 
-// One case.
+// One case, if there is one more. A second table, where it has one, is read into `more`.
 fn turn(
-    streams: &mut Streams,
-    bytes: &mut [u8; CASE_BYTES],
-    answers: &mut [u8; ANSWERS],
-    put: usize,
-) -> State
-    requires { put ≤ 131072 }
-    ensures { result.put ≤ 131072 }
-{
-    let c = input::next(streams, bytes);
-    if !c.whole {
-        return State { put, on: false };
+    input: &mut Input,
+    case: &mut Case,
+    more: &mut Case,
+    answers: &mut Answers,
+) -> Option<io::Result<()>> {
+    let (table, last) = case.next(input)?;
+    match Call::from(last) {
+        Call::Optimize(lend) => Some(optimize::answer(answers, lend, table)),
+        Call::Compare(lend) => {
+            let (right, side) = more.next(input)?;
+            let rule = input.long()?;
+            let row = input.long()?;
+            let at = compare::Place { side, rule, row };
+            Some(compare::answer(answers, lend, table, right, at))
+        }
+        Call::Explain(lend) => {
+            let row = input.long()?;
+            Some(explain::answer(answers, lend, table, row))
+        }
     }
-    if c.short / TOOL == COMPARE {
-        return beside(streams, c, bytes, answers, put);
-    }
-    if c.short / TOOL == EXPLAIN {
-        return explained(streams, c, bytes, answers, put);
-    }
-    State {
-        put: answer(streams, c, bytes, answers, put),
-        on: true,
-    }
-}
-
-// One case of two tables, of which the first is there.
-fn beside(
-    streams: &mut Streams,
-    c: Case,
-    bytes: &[u8],
-    answers: &mut [u8; ANSWERS],
-    put: usize,
-) -> State
-    requires counted { Counted c }
-    requires in_bounds { (135360 ≤ length bytes.now) × (put ≤ 131072) }
-    ensures { result.put ≤ 131072 }
-{
-    let mut more = input::area();
-    let d = input::next(streams, &mut more);
-    let at = compare::next(streams);
-    if !d.whole {
-        return State { put, on: false };
-    }
-    if !at.whole {
-        return State { put, on: false };
-    }
-    State {
-        put: compare::answer(streams, c, bytes, d, &more, at, answers, put),
-        on: true,
-    }
-}
-
-// One case of a table, which is there, and a row of it.
-fn explained(
-    streams: &mut Streams,
-    c: Case,
-    bytes: &[u8],
-    answers: &mut [u8; ANSWERS],
-    put: usize,
-) -> State
-    requires counted { Counted c }
-    requires in_bounds { (135360 ≤ length bytes.now) × (put ≤ 131072) }
-    ensures { result.put ≤ 131072 }
-{
-    let at = explain::next(streams);
-    if !at.whole {
-        return State { put, on: false };
-    }
-    State {
-        put: explain::answer(streams, c, bytes, at.row, answers, put),
-        on: true,
-    }
-}
-
-// The answer to the case whose rule words, row words and text stand in `bytes`.
-fn answer(streams: &mut Streams, c: Case, bytes: &[u8], answers: &mut [u8], put: usize) -> usize
-    requires counted { Counted c }
-    requires in_bounds { (135360 ≤ length bytes.now) × (put ≤ length answers.old) × (131072 ≤ length answers.old) }
-    ensures { result ≤ length answers.old }
-{
-    let mut rules = [0; RULES_AREA];
-    let mut rows = [0; ROWS_AREA];
-    let n = c.rules;
-    let m = c.rows;
-    let rows_at = input::words(bytes, 0, &mut rules, n);
-    let text = input::words(bytes, rows_at, &mut rows, m);
-    let end = text + c.text;
-    output::give(
-        streams,
-        answers,
-        put,
-        c.short,
-        &rules[..n],
-        &rows[..m],
-        &bytes[text..end],
-    )
 }

@@ -31,9 +31,6 @@ pub calm_name : (w : List ℕ) (s : Bytes) (j : ℕ) (b : Bool) → (kind_at w j
 unfolding changes
 calm_name w s j b p n h = record { push = p; name = λ _. ap (λ (c : Bool). c || false) (sym n ∙ h) }
 
-pub same_member : (s : Bytes) (b : Bool) {x y x' y' : ℕ} → x ≡ x' → y ≡ y' → b ≡ member (bytes_at s (x, y)) stack_names → b ≡ member (bytes_at s (x', y')) stack_names
-same_member s b d e h = h ∙ ap₂ (λ (u v : ℕ). member (bytes_at s (u, v)) stack_names) d e
-
 -- every rule's tree
 abbrev Bodies : (Expr Span → Type 0) → Table Span → Type 0
 Bodies P t = (i : ℕ) (r : Rule Span) → get_elem? t i ≡ some r → P r.body

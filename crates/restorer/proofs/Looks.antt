@@ -1,7 +1,7 @@
 -- The look into a rule that was not seen, as what is lent says it. Assumes nothing.
-use mathlib.Core.Path.{◌≡◌, refl, sym, subst}
+use mathlib.Core.Path.{◌≡◌, subst}
 use mathlib.Core.List.{List}
-use mathlib.Core.Logic.{◌⊎◌, inl, inr}
+use mathlib.Core.Logic.{inl, inr}
 use Prim.Native.Nat.{ℕ, ◌+◌, ◌*◌, ◌/◌, ◌≤◌, ◌<◌}
 use native.Mathlib.Omega.{arith}
 use lib.ListN.{length, set, length-set}
@@ -12,33 +12,18 @@ use Rattle.grammar.specs.Rows.{Span}
 use Rattle.grammar.specs.Text.{resolve}
 use Rattle.grammar.specs.Table.{Table, resolve_rule, resolve_table}
 use Rattle.names.proofs.Finding.{There}
-use Rattle.restorer.specs.Search.{OPEN, state_of, nowhere, Right, Walked, Looked, RuleSettled}
+use Rattle.restorer.specs.Search.{OPEN, state_of, Right, Walked, Looked, RuleSettled}
 use Rattle.restorer.specs.Lends.{Lent, Steady}
-use Rattle.restorer.specs.Stacks.{unseen, Stacked, Searching, Ran, top_of, Left, Within, Closes, Leaves}
+use Rattle.restorer.specs.Stacks.{unseen, Stacked, Searching, Ran, top_of, Within, Closes, Leaves}
 use Rattle.restorer.specs.declared.Outcome.{Outcome}
 use Rattle.restorer.specs.declared.Outcome.TheVariants.{Reached, Silent}
 use Rattle.restorer.proofs.Memories.{rule_resolved}
-use Rattle.restorer.proofs.Settles.{open_right, looked, ends_yes, ends_no}
+use Rattle.restorer.proofs.Settles.{open_right, looked, ends_yes}
 use Rattle.restorer.proofs.Marks.{Sets, sets_state, pushed_less, pushed, stack_top, steady_more, steady_set, given_steady, count_resolved}
 
 -- where the stack ends
 pub stack_within : {n : ℕ} {m st : List ℕ} {from top : ℕ} → Stacked n m st top → from ≤ top → n ≤ length st → n * mark_width ≤ length m → Within m st from top
 stack_within s l a b = record { low = l; long = omega (arith, s.room); marks = λ p h. omega (arith, s.below p h) }
-
--- a rule is left, by the answer of its walk
-module _ (m st : List ℕ) (top : ℕ) {a : Outcome} where
-  pub leaves_reached : {high : ℕ} → a ≡ Reached high → Leaves a (Reached high) top m m st
-  leaves_reached {high} e = subst (λ (o : Outcome). Leaves o (Reached high) top m m st) (sym e) (refl, refl)
-
-  module _ {low high : ℕ} (e : a ≡ Silent low high) where
-    pub leaves_open : low < top → Leaves a (Silent low high) top m m st
-    leaves_open l = subst (λ (o : Outcome). Leaves o (Silent low high) top m m st) (sym e) (inl (l, refl, refl))
-
-    pub leaves_within : Within m st top (top_of a) → Within m st top high
-    leaves_within w = rw e at w
-
-    pub leaves_closed : {m' : List ℕ} → top ≤ low → ((n : ℕ) → Stacked n m st high → Closes n m m' st top 2) → Leaves a (Silent nowhere top) top m m' st
-    leaves_closed {m'} l c = subst (λ (o : Outcome). Leaves o (Silent nowhere top) top m m' st) (sym e) (inr (l, refl, c))
 
 module _ {rules rows : List ℕ} {text : Bytes} {m st : List ℕ} {top i : ℕ} (g : Searching rules rows text m st top) (h : i < length rules / rule_width) (z : state_of m i ≡ 0) where
   puts : Sets m (set m (i * mark_width + memory_word) (OPEN + top)) i (OPEN + top)
@@ -64,9 +49,6 @@ module _ {rules rows : List ℕ} {text : Bytes} {m st : List ℕ} {top i : ℕ} 
 
     -- its rows are walked
     module _ {m₂ st₂ : List ℕ} (o : Outcome) (ran : Ran (length rules / rule_width) m₁ m₂ st₂ (top + 1) (top_of o)) where
-      pub look_within : length m₂ ≡ length m₁ → length st₂ ≡ length st₁ → Within m₂ st₂ top (top_of o)
-      look_within a b = let q = look_opens in stack_within ran.stacked (omega (arith, ran.grown)) (omega (arith, q.long)) (omega (arith, q.given.marked.index.long))
-
       -- and it is left
       module _ {m₃ : List ℕ} (b : Outcome) (steady : Steady m₂ m₃) (leaves : Leaves o b top m₂ m₃ st₂) where
         pub look_ran : Ran (length rules / rule_width) m m₃ st₂ top (top_of b)
@@ -85,14 +67,6 @@ module _ {rules rows : List ℕ} {text : Bytes} {m st : List ℕ} {top i : ℕ} 
                 let d = q (length rules / rule_width) r.stacked in
                 rw p (record { steady = steady_more (steady_more start r.steady) steady; fewer = omega (arith, r.fewer, look_less, d.fewer); grown = omega arith; stacked = d.stacked })
 
-        pub look_left : Left b top
-        look_left = go o b leaves
-          where
-            go : (a c : Outcome) → Leaves a c top m₂ m₃ st₂ → Left c top
-            go (Reached high) c (p, q) = rw p tt
-            go (Silent low high) c (inl (l, p, q)) = rw p (inl l)
-            go (Silent low high) c (inr (l, p, q)) = rw p (inr refl)
-
         pub look_says : (t : Table Span) (l : Lent t rules rows) (r : There t i) → Right (resolve_table text t) m → (Right (resolve_table text t) m₁ → Walked o (resolve_table text t) (top + 1) m₁ m₂ (resolve text r.rule.body)) → Looked b (resolve_table text t) top m m₃ i
         look_says t l r k w =
             let rule = resolve_rule text r.rule in
@@ -104,18 +78,6 @@ module _ {rules rows : List ℕ} {text : Bytes} {m st : List ℕ} {top i : ℕ} 
 -- ---- a search from an empty stack
 
 module _ {rules rows : List ℕ} {text : Bytes} {m m₁ st st₁ : List ℕ} {i : ℕ} {o : Outcome} (g : Searching rules rows text m st 0) (h : i < length rules / rule_width) (ran : Ran (length rules / rule_width) m m₁ st₁ 0 (top_of o)) (looks : (t : Table Span) → Lent t rules rows → Right (resolve_table text t) m → Looked o (resolve_table text t) 0 m m₁ i) where
-  -- nothing shows
-  module _ {low high : ℕ} (e : o ≡ Silent low high) where
-    pub rule_empty : Left o 0 → Stacked (length rules / rule_width) m₁ st₁ 0
-    rule_empty l = go (rw e at l)
-      where
-        go : (low < 0) ⊎ (high ≡ 0) → Stacked (length rules / rule_width) m₁ st₁ 0
-        go (inl k) = absurd (omega arith)
-        go (inr k) = rw k at (subst (λ (a : Outcome). Stacked (length rules / rule_width) m₁ st₁ (top_of a)) e ran.stacked)
-
-    pub rule_no : (t : Table Span) → Lent t rules rows → Right (resolve_table text t) m → RuleSettled (resolve_table text t) m m₁ i
-    rule_no t l r = ends_no low high (rw e at (looks t l r))
-
   -- a change is reached
   module _ {high : ℕ} (e : o ≡ Reached high) where
     rule_stack : Stacked (length rules / rule_width) m₁ st₁ high
@@ -125,9 +87,6 @@ module _ {rules rows : List ℕ} {text : Bytes} {m m₁ st st₁ : List ℕ} {i 
     rule_within a b = stack_within rule_stack (omega arith) (omega (arith, g.long)) (omega (arith, g.given.marked.index.long))
 
     module _ {m₂ : List ℕ} (c : (n : ℕ) → Stacked n m₁ st₁ high → Closes n m₁ m₂ st₁ 0 3) where
-      pub rule_closed : Stacked (length rules / rule_width) m₂ st₁ 0
-      rule_closed = (c (length rules / rule_width) rule_stack).stacked
-
       pub rule_yes : (t : Table Span) → Lent t rules rows → Right (resolve_table text t) m → RuleSettled (resolve_table text t) m m₂ i
       rule_yes t l r =
           let n = count_resolved l text in

@@ -3,7 +3,9 @@ use mathlib.Core.Path.{◌≡◌, refl, sym, ◌∙◌, subst}
 use mathlib.Core.Bool.{Bool, true, false, ◌&&◌, not, cond}
 use mathlib.Core.List.{List, [], ◌∷◌, ◌++◌}
 use mathlib.Core.Logic.{◌⊎◌, inl, inr}
-use Prim.Native.Nat.{ℕ, ◌+◌, ◌-◌, ◌/◌, ◌≤◌, ◌<◌}
+use Prim.Native.Nat.{ℕ, ◌+◌, ◌-◌, ◌/◌, ◌≤◌, ◌<◌, min}
+use native.Mathlib.Nat.{min-eq_left, min-eq_right}
+use native.Mathlib.Decide.{dec_le}
 use native.Mathlib.Omega.{arith}
 use lib.ListN.{length}
 use Rattle.grammar.specs.Numbers.{rule_width}
@@ -19,13 +21,27 @@ use Rattle.rows.proofs.Views.{at_unique}
 use Rattle.restorer.specs.Search.{OPEN, state_of, loud, Quiet, Right, Reach, Kept, Searches, Closed, nowhere, Changing, Passing, Walked, Looked}
 use Rattle.restorer.specs.Lends.{Lent, TreeRows}
 use Rattle.restorer.specs.Stacks.{Searching, Ran, top_of}
-use Rattle.restorer.specs.Walks.{Run, below, changes_at, AtRoot, Visited, GoesOn, Unseen, Least}
+use Rattle.restorer.specs.Walks.{Run, below, changes_at, AtRoot, Visited, GoesOn, Unseen}
 use Rattle.restorer.specs.declared.Outcome.{Outcome}
 use Rattle.restorer.specs.declared.Outcome.TheVariants.{Reached, Silent}
 use Rattle.restorer.specs.declared.Step.{Step}
 use Rattle.restorer.specs.declared.Step.TheVariants.{Changes, Next, Into}
 use Rattle.restorer.proofs.Memories.{or_no, stays_quiet, kept_none, kept_then, searches_none, searches_then, closed_none, closed_then, leads_then}
 use Rattle.restorer.proofs.Marks.{ran_none, ran_more, given_steady}
+
+-- ---- the least of two
+
+record Least (r a b : ℕ) : Type 0 where
+  first : r ≤ a
+  second : r ≤ b
+  one : (r ≡ a) ⊎ (r ≡ b)
+
+least : (a b : ℕ) → Least (min a b) a b
+least a b = record { first = omega arith; second = omega arith; one = go (dec_le a b) }
+  where
+    go : Dec (a ≤ b) → (min a b ≡ a) ⊎ (min a b ≡ b)
+    go (yes h) = inl (min-eq_left h)
+    go (no h) = let k : b ≤ a = omega arith in inr (min-eq_right k)
 
 -- ---- where the trees stand
 
@@ -235,8 +251,8 @@ module _ {rules rows : List ℕ} {text : Bytes} {m st : List ℕ} {from end top 
         said : {b : Step} → a ≡ b → (t : Table Span) → Lent t rules rows → Right (resolve_table text t) m₁ → Visited b text (resolve_table text t) m₁ walk_top.tree
         said e t l h = let q = walk_top in subst (λ (z : Step). Visited z text (resolve_table text t) m₁ q.tree) e (visited t q.tree l q.at h)
 
-        pub walk_next : {j l low' : ℕ} → a ≡ Next j l → Least low' low l → Walking rules rows text m m₁ st st₁ from end top j low' high
-        walk_next e ls = passed (ran_none inv.ran.stacked) refl refl (onward e) ls (λ t l h. said e t l h high)
+        pub walk_next : {j l low' : ℕ} → a ≡ Next j l → low' ≡ min low l → Walking rules rows text m m₁ st st₁ from end top j low' high
+        walk_next {l = l} e ls = passed (ran_none inv.ran.stacked) refl refl (onward e) (rw ls (least low l)) (λ t l h. said e t l h high)
 
         pub walk_less : {j l : ℕ} → a ≡ Next j l → j < i
         walk_less e = omega (arith, walk_top.some, (onward e).0)
@@ -246,11 +262,8 @@ module _ {rules rows : List ℕ} {text : Bytes} {m st : List ℕ} {from end top 
 
         -- and the rule that it asks
         module _ {m₂ st₂ : List ℕ} {k : ℕ} {b : Outcome} (e : a ≡ Into k) (ran : Ran (length rules / rule_width) m₁ m₂ st₂ high (top_of b)) (looks : (t : Table Span) → Lent t rules rows → Right (resolve_table text t) m₁ → Looked b (resolve_table text t) high m₁ m₂ k) where
-          pub walk_past : {l low' high' : ℕ} → b ≡ Silent l high' → Least low' low l → length m₂ ≡ length m₁ → length st₂ ≡ length st₁ → Walking rules rows text m m₂ st st₂ from end top (i - 1) low' high'
-          walk_past {l} {low'} {high'} f ls long longs = passed (rw f at ran) long longs (onward e) ls (λ t v h. said e t v h (Silent l high') high m₂ (rw f at (looks t v h)))
-
-          pub walk_ran : {high' : ℕ} → b ≡ Reached high' → Ran (length rules / rule_width) m m₂ st₂ top high'
-          walk_ran f = ran_more inv.ran (rw f at ran)
+          pub walk_past : {l low' high' : ℕ} → b ≡ Silent l high' → low' ≡ min low l → length m₂ ≡ length m₁ → length st₂ ≡ length st₁ → Walking rules rows text m m₂ st st₂ from end top (i - 1) low' high'
+          walk_past {l} {low'} {high'} f ls long longs = passed (rw f at ran) long longs (onward e) (rw ls (least low l)) (λ t v h. said e t v h (Silent l high') high m₂ (rw f at (looks t v h)))
 
           pub walk_told : {high' : ℕ} → b ≡ Reached high' → (t : Table Span) (r : Expr Span) → Lent t rules rows → At rows (end - 1) r → Right (resolve_table text t) m → Walked (Reached high') (resolve_table text t) top m m₂ (resolve text r)
           walk_told {high'} f = met high' (λ t l h. said e t l h (Reached high') high m₂ (rw f at (looks t l h)))

@@ -241,9 +241,6 @@ module _ {t : Table Bytes} {m m₁ m₂ st : List ℕ} {i : ℕ} (low : (j : ℕ
       go (inl p) = omega (arith, p.1)
       go (inr p) = omega (arith, p.1, a.0)
 
-pub ends_no : {t : Table Bytes} {m m₁ : List ℕ} {i : ℕ} (low high : ℕ) → Looked (Silent low high) t 0 m m₁ i → RuleSettled t m m₁ i
-ends_no low high a = record { right = a.1.searches.right; here = a.0; kept = a.1.searches.kept }
-
 -- a rule that is settled already
 pub ends_settled : {t : Table Bytes} {m : List ℕ} {i : ℕ} → Right t m → i < length t → (state_of m i ≡ 0 → ⊥) → RuleSettled t m m i
 ends_settled {t} {m} {i} h l n = record { right = h; here = go (state_of m i) refl; kept = kept_none t m }

@@ -1,4 +1,5 @@
 -- What shows of a restored tree, by cases, and that settled marks say it of names. Assumes nothing.
+use Rattle.std.specs.Prelude.{None, Option, Some}
 use mathlib.Core.Path.{◌≡◌, refl, sym, ap, ◌∙◌}
 use mathlib.Core.Bool.{false≢true, Bool, true, false, ◌||◌, cond}
 use mathlib.Core.List.{List}
@@ -21,8 +22,6 @@ use Rattle.writing.specs.Writes.{Fits}
 use Rattle.writing.specs.declared.Place.{Place}
 use Rattle.writing.proofs.Trees.{fits_un}
 use Rattle.names.specs.Names.{Finds}
-use Rattle.names.specs.declared.Found.{Found}
-use Rattle.names.specs.declared.Found.TheVariants.{At, Nothing}
 use Rattle.names.proofs.Finding.{Looked, looked, not_found}
 use Rattle.restorer.specs.Search.{state_of, Settled}
 use Rattle.restorer.specs.Lends.{Lent, Marked, Settles}
@@ -152,9 +151,9 @@ stack_shows t x h = sym ((changes_is t (lit Ident x)).1 (at_name h))
 
 -- SETTLED MARKS SAY WHETHER THE STACK CAN CHANGE THROUGH A NAME
 module _ {rules rows : List ℕ} (text : Bytes) (t : Table Span) (lent : Lent t rules rows) (m : List ℕ) (h : Settled (resolve_table text t) m) where
-  says_yes : (key : Bytes) (f : Found) → Finds (length rules / rule_width) rules text key f → Through (resolve_table text t) key → says_found m f ≡ true
-  says_yes key Nothing n th = none_some (sym (not_found text key t (rw lent.heads n)) ∙ th.finds)
-  says_yes key (At i) n th = go (state_of m i) refl
+  says_yes : (key : Bytes) (f : Option ℕ) → Finds (length rules / rule_width) rules text key f → Through (resolve_table text t) key → says_found m f ≡ true
+  says_yes key None n th = none_some (sym (not_found text key t (rw lent.heads n)) ∙ th.finds)
+  says_yes key (Some i) n th = go (state_of m i) refl
     where
       l : Looked text key t i
       l = looked text key t i (rw lent.heads n)
@@ -172,16 +171,16 @@ module _ {rules rows : List ℕ} (text : Bytes) (t : Table Span) (lent : Lent t 
       go (suc (suc (suc zero))) e = refl
       go (suc (suc (suc (suc v)))) e = absurd (omega (arith, h.states i below))
 
-  yes_says : (key : Bytes) (f : Found) → Finds (length rules / rule_width) rules text key f → says_found m f ≡ true → Reaches (resolve_table text t) (lit Ident key)
-  yes_says key Nothing n s = absurd (false≢true s)
-  yes_says key (At i) n s =
+  yes_says : (key : Bytes) (f : Option ℕ) → Finds (length rules / rule_width) rules text key f → says_found m f ≡ true → Reaches (resolve_table text t) (lit Ident key)
+  yes_says key None n s = absurd (false≢true s)
+  yes_says key (Some i) n s =
       let l : Looked text key t i = looked text key t i (rw lent.heads n) in
       through l.finds (h.right.yes i (resolve_rule text l.rule) (rule_resolved text t i l.rule l.is) (eqb_eq (state_of m i) 3 s))
 
   pub sure : Sure (resolve_table text t) rules text m
   sure = record { name = name }
     where
-      name : (key : Bytes) (f : Found) → Finds (length rules / rule_width) rules text key f → changes (resolve_table text t) (lit Ident key) ≡ (member key stack_names || says_found m f)
+      name : (key : Bytes) (f : Option ℕ) → Finds (length rules / rule_width) rules text key f → changes (resolve_table text t) (lit Ident key) ≡ (member key stack_names || says_found m f)
       name key f n = same_bool _ _ (λ c. forth (name_reaches (resolve_table text t) (lit Ident key) ((changes_is (resolve_table text t) (lit Ident key)).0 c) key refl)) (λ c. (changes_is (resolve_table text t) (lit Ident key)).1 (back (or_case (member key stack_names) (says_found m f) c)))
         where
           forth : (member key stack_names ≡ true) ⊎ Through (resolve_table text t) key → (member key stack_names || says_found m f) ≡ true

@@ -1,5 +1,5 @@
 -- A tree in no row of which the stack can change is restored as it is. Assumes nothing.
-use mathlib.Core.Path.{◌≡◌, refl, sym, ap, ap₂, subst, ◌∙◌}
+use mathlib.Core.Path.{◌≡◌, refl, sym, ap, ap₂, ◌∙◌}
 use mathlib.Core.Bool.{Bool, true, false, ◌||◌}
 use mathlib.Core.List.{List}
 use Prim.Native.Nat.{ℕ, ◌+◌, ◌-◌, ◌≤◌, ◌<◌}
@@ -14,9 +14,6 @@ use Rattle.grammar.specs.Steps.{restore}
 use Rattle.rows.specs.Rows.{kind_at, x_at, y_at, At, shape_of}
 use Rattle.rows.specs.declared.Shape.TheVariants.{Lit}
 use Rattle.rows.proofs.Laws.{root, at_un, at_left_lem, at_right_lem, size_pos}
-use Rattle.writing.specs.Writes.{Answer}
-use Rattle.writing.specs.declared.Place.{Place}
-use Rattle.writing.specs.declared.Wrote.{Wrote}
 use Rattle.restorer.specs.Restores.{is_guard, guarded_if, shows_through, Sure}
 use Rattle.restorer.proofs.Showing.{changes_un, changes_bin, changes_lit_lem, changes_fixed, changes_skip, restore_lit, restore_fixed, restore_skip, restore_un, restore_bin, guarded_no, guarded_not}
 
@@ -39,9 +36,6 @@ still_name rules marks w s j b p n h = λ t su. record { push = p; name = λ _. 
 pub ident_shape : {k : ℕ} → k ≡ 3 → shape_of k ≡ Lit
 unfolding shape_of
 ident_shape e = ap shape_of e
-
-pub same_name : (t : Table Bytes) (s : Bytes) (b : Bool) {x y x' y' : ℕ} → x ≡ x' → y ≡ y' → b ≡ changes t (lit Ident (bytes_at s (x, y))) → b ≡ changes t (lit Ident (bytes_at s (x', y')))
-same_name t s b d e h = h ∙ ap₂ (λ (u v : ℕ). changes t (lit Ident (bytes_at s (u, v)))) d e
 
 module _ (t : Table Bytes) where
   pub guarded_still : (g : Bool) (e : E) → changes t e ≡ false → guarded_if t g e ≡ e
@@ -115,7 +109,3 @@ module _ (t : Table Bytes) where
         restore_bin t b (resolve s l) (resolve s r)
         ∙ ap₂ (λ (x y : E). bin b (guarded_if t (is_guard (bin_kind b)) x) (guarded_if t (is_guard (bin_kind b)) y)) (restore_still l (at_left_lem a) g) (restore_still r (at_right_lem a) d)
         ∙ ap₂ (bin b) (guarded_still (is_guard (bin_kind b)) (resolve s l) (changes_still l (at_left_lem a) g)) (guarded_still (is_guard (bin_kind b)) (resolve s r) (changes_still r (at_right_lem a) d))
-
--- then its copy is what is asked for
-pub answer_still : {x y : E} (a : Wrote) (p : Place) (o o' l l' : List ℕ) → y ≡ x → Answer a p x o o' l l' → Answer a p y o o' l l'
-answer_still a p o o' l l' e h = subst (λ (z : E). Answer a p z o o' l l') (sym e) h

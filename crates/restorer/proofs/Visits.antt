@@ -1,4 +1,5 @@
 -- The visit of a row: a row that is no Ident by its kind, an Ident by its name and its rule. Assumes nothing.
+use Rattle.std.specs.Prelude.{None, Option, Some}
 use mathlib.Core.Path.{◌≡◌, refl, sym, ap, ◌∙◌}
 use mathlib.Core.Bool.{false≢true, Bool, true, false, not}
 use mathlib.Core.List.{List, [], ◌∷◌}
@@ -19,8 +20,6 @@ use Rattle.rows.proofs.Laws.{head_of, Found, root, found_size, at_un, at_left_le
 use Rattle.rows.proofs.Cells.{lit_shape}
 use Rattle.rows.proofs.Views.{as_lit, lit_is}
 use Rattle.names.specs.Names.{name_of, First, Finds}
-use Rattle.names.specs.declared.Found.{Found as Found'}
-use Rattle.names.specs.declared.Found.TheVariants.{At as Sited, Nothing}
 use Rattle.names.proofs.Finding.{Looked, looked, not_found, name_is}
 use Rattle.restorer.specs.Search.{state_of, memory_of, is_quiet, loud, Right, RuleReaches, nowhere, Looked as Answered}
 use Rattle.restorer.specs.declared.Outcome.{Outcome}
@@ -105,15 +104,15 @@ pub words_at : (w : List ℕ) (i : ℕ) → i < length w / row_width → Found w
 words_at w i h = record { within = h; kind = refl; x = refl; y = refl; rows = refl }
 
 -- the step from a row that was read
-module _ {w : List ℕ} {i k x y n v : ℕ} {a : Step} (f : Found w i k x y n) (z : k ≡ 3 → ⊥) (e : a ≡ step_from k i v) (g : v ≡ n) where
+module _ {w : List ℕ} {i k x y n v c : ℕ} {a : Step} (f : Found w i k x y n) (d : c ≡ k) (z : c ≡ 3 → ⊥) (e : a ≡ step_from c i v) (g : v ≡ n) where
   step_is : {r : Expr Span} → At w i r → a ≡ step_from (head_of r).0 i (size r)
   step_is {r} b =
-      let p : k ≡ (head_of r).0 = sym f.kind ∙ (root b).kind in
+      let p : c ≡ (head_of r).0 = d ∙ sym f.kind ∙ (root b).kind in
       let q : v ≡ size r = g ∙ found_size f b in
       e ∙ rw (p, q)
 
   not_ident : {r : Expr Span} → At w i r → (head_of r).0 ≡ 3 → ⊥
-  not_ident b q = z (sym f.kind ∙ (root b).kind ∙ q)
+  not_ident b q = z (d ∙ sym f.kind ∙ (root b).kind ∙ q)
 
   pub row_goes : (r : Expr Span) → At w i r → GoesOn a w i r
   row_goes r b = rw (step_is b) (goes_on w i r b (not_ident b))
@@ -123,7 +122,7 @@ module _ {w : List ℕ} {i k x y n v : ℕ} {a : Step} (f : Found w i k x y n) (
 
   pub row_unseen : (rules m : List ℕ) → Unseen a rules m
   unfolding step_from
-  row_unseen rules m = rw e (go (eqb k 18) (eqb k 17) (eqb k 19))
+  row_unseen rules m = rw e (go (eqb c 18) (eqb c 17) (eqb c 19))
     where
       go : (p q o : Bool) → Unseen (pick p Changes (pick q (Next (i + 1 - v) nowhere) (pick o (Next (i + 1 - v) nowhere) (Next i nowhere)))) rules m
       go true q o = tt
@@ -150,7 +149,7 @@ module _ (P : Step → Type 0) (s k i : ℕ) where
 pub asks_unseen : (i k : ℕ) (rules m : List ℕ) (a : Step) → k < length rules / rule_width → a ≡ recalled (state_of m k) k i → Unseen a rules m
 asks_unseen i k rules m a h = recalled_case (λ b. Unseen b rules m) (state_of m k) k i (λ _. tt) (λ z. (h, z)) (λ _ _. tt) a
 
-pub finds_below : {j : ℕ} (n : ℕ) (rules : List ℕ) (s key : Bytes) (found : Found') → Finds n rules s key found → found ≡ Sited j → j < n
+pub finds_below : {j : ℕ} (n : ℕ) (rules : List ℕ) (s key : Bytes) (found : Option ℕ) → Finds n rules s key found → found ≡ Some j → j < n
 finds_below {j} n rules s key found h e = let f : First n rules s key j = rw e at h in f.below
 
 module _ {w : List ℕ} {i k x y n : ℕ} (f : Found w i k x y n) (z : k ≡ 3) where
@@ -168,21 +167,21 @@ module _ {w : List ℕ} {i k x y n : ℕ} (f : Found w i k x y n) (z : k ≡ 3) 
   stack_name s t m c r d e g h b l top = rw (ident_is r b) (record { searches = searches_none l; reaches = at_name (rw (d, e, h) at (sym g)) })
 
   -- one that does not, and what a search by name found
-  module _ {p q : ℕ} {rules rows : List ℕ} (s : Bytes) (t : Table Span) (lent : Lent t rules rows) (m : List ℕ) (c : Bool) (found : Found') (r : Expr Span) (d : p ≡ x) (e : q ≡ y) (g : c ≡ member (bytes_at s (p, q)) stack_names) (h : c ≡ false) (finds : Finds (length rules / rule_width) rules s (bytes_at s (p, q)) found) (b : At w i r) where
+  module _ {p q : ℕ} {rules rows : List ℕ} (s : Bytes) (t : Table Span) (lent : Lent t rules rows) (m : List ℕ) (c : Bool) (found : Option ℕ) (r : Expr Span) (d : p ≡ x) (e : q ≡ y) (g : c ≡ member (bytes_at s (p, q)) stack_names) (h : c ≡ false) (finds : Finds (length rules / rule_width) rules s (bytes_at s (p, q)) found) (b : At w i r) where
     plain : member (bytes_at s (x, y)) stack_names ≡ false
     plain = rw (d, e, h) at (sym g)
 
     here : Finds (length rules / rule_width) rules s (bytes_at s (x, y)) found
     here = rw (d, e) at finds
 
-    pub ident_nothing : found ≡ Nothing → Right (resolve_table s t) m → (top : ℕ) → AtRoot (Silent nowhere top) s (resolve_table s t) top m m r
+    pub ident_nothing : found ≡ None → Right (resolve_table s t) m → (top : ℕ) → AtRoot (Silent nowhere top) s (resolve_table s t) top m m r
     ident_nothing o l =
-        let u : Finds (length rules / rule_width) rules s (bytes_at s (x, y)) Nothing = rw o at here in
+        let u : Finds (length rules / rule_width) rules s (bytes_at s (x, y)) None = rw o at here in
         let v : memory_of (resolve_table s t) m (bytes_at s (x, y)) ≡ 2 = memory_none (resolve_table s t) m (bytes_at s (x, y)) (not_found s (bytes_at s (x, y)) t (rw lent.heads u)) in
         rw (ident_is r b)
         (passes s (resolve_table s t) m l (lit Ident (x, y)) (or_no (member (bytes_at s (x, y)) stack_names) (loud (resolve_table s t) m nowhere (bytes_at s (x, y))) plain (ap (λ (j : ℕ). not (is_quiet nowhere j)) v)))
 
-    module _ {j : ℕ} (o : found ≡ Sited j) where
+    module _ {j : ℕ} (o : found ≡ Some j) where
       first : First (length rules / rule_width) rules s (bytes_at s (x, y)) j
       first = rw o at here
 

@@ -1,5 +1,5 @@
 -- What is written of a restored tree, and what shows of it. Assumes nothing.
-use Rattle.std.specs.Prelude.{◌≡◌, Bool, true, false, ◌||◌, cond, List, [], ◌∷◌, ℕ, ◌+◌, ◌-◌, ◌*◌, ◌/◌, ◌^◌, ◌≤◌, ◌<◌, length, get_or, eqb}
+use Rattle.std.specs.Prelude.{◌≡◌, Bool, true, false, ◌||◌, cond, List, [], ◌∷◌, ℕ, ◌+◌, ◌-◌, ◌*◌, ◌/◌, ◌^◌, ◌≤◌, ◌<◌, length, get_or, eqb, None, Option, Some}
 use Rattle.grammar.specs.Numbers.{rule_width, row_width, mark_width, k_choice, k_opt, k_rep, k_push, k_restore_on_err}
 use Rattle.grammar.specs.Basic.{Bytes, member}
 use Rattle.grammar.specs.Tree.{Head, Un, Ident, Expr, E, lit, un, un_head}
@@ -10,15 +10,9 @@ use Rattle.grammar.specs.Steps.{guarded}
 use Rattle.rows.specs.Rows.{Inside, At as Stands, kind_at, x_at, y_at}
 use Rattle.writing.specs.Writes.{RowPut, Fits, Written}
 use Rattle.writing.specs.declared.Place.{Place}
-use Rattle.writing.specs.declared.Wrote.{Wrote}
-use Rattle.writing.specs.declared.Wrote.TheVariants.{Done, Full as NoRoom}
 use Rattle.names.specs.Names.{AllIndexed, Finds, end_word}
 use Rattle.chains.specs.Runs.{ups}
-use Rattle.names.specs.declared.Found.{Found}
-use Rattle.names.specs.declared.Found.TheVariants.{At, Nothing}
 use Rattle.restorer.specs.Search.{state_of}
-use Rattle.restorer.specs.declared.Restored.{Restored}
-use Rattle.restorer.specs.declared.Restored.TheVariants.{To, Full}
 
 -- Opt, Rep and Choice: what is below gets RestoreOnErr
 abbrev pub is_guard : ℕ → Bool
@@ -38,13 +32,13 @@ abbrev pub shows_through : ℕ → Bool → Bool
 shows_through k b = cond (eqb k k_push) true (cond (eqb k k_restore_on_err) false b)
 
 -- what the marks say of a rule that was found
-abbrev pub says_found : List ℕ → Found → Bool
-says_found m (At i) = eqb (state_of m i) 3
-says_found m Nothing = false
+abbrev pub says_found : List ℕ → Option ℕ → Bool
+says_found m (Some i) = eqb (state_of m i) 3
+says_found m None = false
 
 -- the marks say of every name whether the stack can change through it
 pub record Sure (t : Table Bytes) (rules : List ℕ) (text : Bytes) (m : List ℕ) : Type 0 where
-  pub name : (key : Bytes) (f : Found) → Finds (length rules / rule_width) rules text key f → changes t (lit Ident key) ≡ (member key stack_names || says_found m f)
+  pub name : (key : Bytes) (f : Option ℕ) → Finds (length rules / rule_width) rules text key f → changes t (lit Ident key) ≡ (member key stack_names || says_found m f)
 
 -- the table and the marks of a source
 pub record Known (rules marks rows : List ℕ) (text : Bytes) : Type 0 where
@@ -74,18 +68,9 @@ pub record Shown (q p : Place) (b : Bool) (t : Table Bytes) (e : E) (o o' l l' :
   pub written : Written q p e o o' l l'
   pub shows : b ≡ changes t e
 
-abbrev pub RestoredAnswer : Restored → Place → Table Bytes → E → (o o' l l' : List ℕ) → Type 0
-RestoredAnswer (To q b) p t e o o' l l' = Shown q p b t e o o' l l'
-RestoredAnswer Full p t e o o' l l' = Fits p e o l → ⊥
-
--- the answer of a writing of which b shows, and the same without what shows
-abbrev pub told_by : Wrote → Bool → Restored
-told_by (Done q) b = To q b
-told_by NoRoom b = Full
-
-abbrev pub wrote_by : Restored → Wrote
-wrote_by (To q b) = Done q
-wrote_by Full = NoRoom
+abbrev pub RestoredAnswer : Option (Place × Bool) → Place → Table Bytes → E → (o o' l l' : List ℕ) → Type 0
+RestoredAnswer (Some (q, b)) p t e o o' l l' = Shown q p b t e o o' l l'
+RestoredAnswer None p t e o o' l l' = Fits p e o l → ⊥
 
 -- a row goes over what stands from p to q
 pub record Over (p q : Place) (o : List ℕ) : Type 0 where
@@ -98,17 +83,17 @@ pub record NodePut (s p q : Place) (c : Bool) (h : Head) (b : Bool) (o o' : List
   pub row : RowPut s q h (q.rows - p.rows + 1) o o'
   pub shows : c ≡ shows_through h.0 b
 
-abbrev pub NodeAnswer : Restored → Place → Place → Head → Bool → (o o' : List ℕ) → Type 0
-NodeAnswer (To s c) p q h b o o' = NodePut s p q c h b o o'
-NodeAnswer Full p q h b o o' = q.rows < length o / row_width → ⊥
+abbrev pub NodeAnswer : Option (Place × Bool) → Place → Place → Head → Bool → (o o' : List ℕ) → Type 0
+NodeAnswer (Some (s, c)) p q h b o o' = NodePut s p q c h b o o'
+NodeAnswer None p q h b o o' = q.rows < length o / row_width → ⊥
 
 -- the place that is told is over p too
-abbrev pub OverAnswer : Restored → Place → List ℕ → Type 0
-OverAnswer (To s b) p o = Over p s o
-OverAnswer Full p o = Unit {0}
+abbrev pub OverAnswer : Option (Place × Bool) → Place → List ℕ → Type 0
+OverAnswer (Some (s, b)) p o = Over p s o
+OverAnswer None p o = Unit {0}
 
 -- whatever tree stands from p to q, of which b shows, becomes f of it
-abbrev pub Becomes : Restored → (q p : Place) → Bool → (Table Bytes → E → E) → (o₁ o₂ : List ℕ) → Type 0
+abbrev pub Becomes : Option (Place × Bool) → (q p : Place) → Bool → (Table Bytes → E → E) → (o₁ o₂ : List ℕ) → Type 0
 Becomes a q p b f o₁ o₂ = (t : Table Bytes) (e : E) (o l l₁ : List ℕ) → Shown q p b t e o o₁ l l₁ → RestoredAnswer a p t (f t e) o o₂ l l₁
 
 -- the run of the tree at row `root` of the words w stands over row `base`

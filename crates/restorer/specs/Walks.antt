@@ -1,5 +1,5 @@
 -- A search over rows from a tree's last row to its first: what is left to look at is a run of trees, the last on top. Assumes nothing.
-use Rattle.std.specs.Prelude.{◌≡◌, Bool, true, false, cond, List, [], ◌∷◌, ◌⊎◌, ℕ, ◌+◌, ◌-◌, ◌/◌, ◌≤◌, ◌<◌, length, eqb, leb}
+use Rattle.std.specs.Prelude.{◌≡◌, Bool, true, false, cond, List, [], ◌∷◌, ℕ, ◌+◌, ◌-◌, ◌/◌, ◌≤◌, ◌<◌, length, eqb, leb}
 use Rattle.grammar.specs.Numbers.{rule_width, k_skip, k_push, k_restore_on_err}
 use Rattle.grammar.specs.Basic.{Bytes}
 use Rattle.grammar.specs.Tree.{Expr, E, lit, fixed, skip, un, bin, size, is_un}
@@ -74,9 +74,3 @@ abbrev pub Unseen : Step → List ℕ → List ℕ → Type 0
 Unseen Changes rules m = Unit {0}
 Unseen (Next j low) rules m = Unit {0}
 Unseen (Into k) rules m = (k < length rules / rule_width) × (state_of m k ≡ 0)
-
--- the least of two
-pub record Least (r a b : ℕ) : Type 0 where
-  pub first : r ≤ a
-  pub second : r ≤ b
-  pub one : (r ≡ a) ⊎ (r ≡ b)

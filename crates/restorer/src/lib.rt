@@ -1,7 +1,7 @@
 // Restore: whether the stack can change through each rule of a table, and step 7 on a subtree. A rule's memory is word 1 of its mark: 0 not seen, 2 the stack cannot change through it, 3 it can, OPEN + p it is open, at position p of the stack of open rules.
 #![tactic(auto)]
 
-ghost use Rattle.std.specs.Prelude.{◌≡◌, true, false, ◌||◌, ℕ, ◌+◌, ◌-◌, ◌*◌, ◌/◌, ◌^◌, ◌≤◌, ◌<◌, length, set};
+ghost use Rattle.std.specs.Prelude.{◌≡◌, Some, true, false, ◌||◌, ℕ, ◌+◌, ◌-◌, ◌*◌, ◌/◌, ◌^◌, ◌≤◌, ◌<◌, length, set};
 ghost use Rattle.grammar.specs.Numbers.{rule_width, row_width, mark_width, k_ident};
 ghost use Rattle.grammar.specs.Tree.{Expr, size};
 ghost use Rattle.grammar.specs.Rows.{Span};
@@ -19,17 +19,16 @@ ghost use Rattle.names.specs.Names.{AllIndexed, memory_word};
 ghost use Rattle.restorer.specs.Search.{OPEN, state_of, Right, Walked, Looked, RuleSettled};
 ghost use Rattle.restorer.specs.Lends.{Lent, Marked, Given, Steady, TreeRows, Settles};
 ghost use Rattle.restorer.specs.Stacks.{Stacked, Searching, Ran, top_of, Left, Within, Closes, Leaves};
-ghost use Rattle.restorer.specs.Walks.{step_from, recalled, GoesOn, Visited, Unseen, Least};
-ghost use Rattle.restorer.specs.Restores.{is_guard, shows_through, SettledNo, guarded_if, Sure, Known, RowIs, Unset, climbed, told_by, wrote_by, RestoredAnswer, Over, NodeAnswer, OverAnswer, Becomes, Climbable};
+ghost use Rattle.restorer.specs.Walks.{step_from, recalled, GoesOn, Visited, Unseen};
+ghost use Rattle.restorer.specs.Restores.{is_guard, shows_through, SettledNo, guarded_if, Sure, Known, RowIs, Unset, climbed, RestoredAnswer, Over, NodeAnswer, OverAnswer, Becomes, Climbable};
 ghost use Rattle.chains.specs.Runs.{ups};
 
 use grammar::{
-    CHOICE, IDENT, MARK_WIDTH, OPT, PUSH, REP, RESTORE_ON_ERR, ROW_WIDTH, ROWS, RULE_WIDTH, SIZE,
-    SKIP, X, Y,
+    CHOICE, IDENT, MARK_WIDTH, OPT, PUSH, REP, RESTORE_ON_ERR, ROW_WIDTH, ROWS, RULE_WIDTH, SKIP,
 };
-use names::{END, Found, MEMORY};
-use rows::{Lookup, Shape, wide};
-use writing::{Place, Wrote};
+use names::{END, MEMORY};
+use rows::Shape;
+use writing::Place;
 
 const UNSEEN: u32 = 0;
 
@@ -58,30 +57,17 @@ enum Outcome {
     Silent(usize, usize),
 }
 
-// How many rows the subtree of row i has.
-fn rows_of(rows: &[u32], i: usize) -> usize
-    requires { i < length rows.now / row_width }
-    ensures { result ≡ size_at rows.now i }
-{
-    wide(rows[i * ROW_WIDTH + SIZE])
-}
-
 // The step from row i, which is no Ident.
 fn step_from(kind: u32, i: usize, size: usize) -> Step
     requires { (size ≤ i + 1) × (i + 1 < 2 ^ 64) }
     ensures { result ≡ step_from kind i size }
 {
-    if kind == PUSH {
-        return Step::Changes;
+    match kind {
+        PUSH => Step::Changes,
+        // a RestoreOnErr is set already: its child is not looked at
+        SKIP | RESTORE_ON_ERR => Step::Next(i + 1 - size, NOWHERE),
+        _ => Step::Next(i, NOWHERE),
     }
-    if kind == SKIP {
-        return Step::Next(i + 1 - size, NOWHERE);
-    }
-    // already set: its child is not looked at
-    if kind == RESTORE_ON_ERR {
-        return Step::Next(i + 1 - size, NOWHERE);
-    }
-    Step::Next(i, NOWHERE)
 }
 
 // The step from row i, which names rule k, by that rule's memory.
@@ -99,7 +85,7 @@ fn recall(marks: &[u32], k: usize, i: usize) -> Step
     if state < OPEN {
         return Step::Next(i, NOWHERE);
     }
-    Step::Next(i, wide(state - OPEN))
+    Step::Next(i, (state - OPEN) as usize)
 }
 
 // The step from row i, which is an Ident.
@@ -111,13 +97,12 @@ fn named(rules: &[u32], rows: &[u32], text: &[u8], marks: &[u32], i: usize) -> S
     ensures goes_on { (r : Expr Span) → At rows.now i r → GoesOn result rows.now i r }
     ensures visited { (t : Table Span) (r : Expr Span) → Lent t rules.now rows.now → At rows.now i r → Right (resolve_table text.now t) marks.now → Visited result text.now (resolve_table text.now t) marks.now r }
 {
-    let at = i * ROW_WIDTH;
-    let x = wide(rows[at + X]);
-    let n = wide(rows[at + Y]);
+    let x = rows::x_at(rows, i);
+    let n = rows::y_at(rows, i);
     if names::changes_stack(text, x, n) {
         return Step::Changes;
     }
-    let Found::At(k) = names::find_rule(rules, text, marks, text, x, n) else {
+    let Some(k) = names::find_rule(rules, text, marks, text, x, n) else {
         return Step::Next(i, NOWHERE);
     };
     recall(marks, k, i)
@@ -131,22 +116,11 @@ fn visit(rules: &[u32], rows: &[u32], text: &[u8], marks: &[u32], i: usize) -> S
     ensures goes_on { (r : Expr Span) → At rows.now i r → GoesOn result rows.now i r }
     ensures visited { (t : Table Span) (r : Expr Span) → Lent t rules.now rows.now → At rows.now i r → Right (resolve_table text.now t) marks.now → Visited result text.now (resolve_table text.now t) marks.now r }
 {
-    let at = i * ROW_WIDTH;
-    let kind = rows[at];
+    let kind = rows::kind_at(rows, i);
     if kind != IDENT {
-        return step_from(kind, i, wide(rows[at + SIZE]));
+        return step_from(kind, i, rows::size_at(rows, i));
     }
     named(rules, rows, text, marks, i)
-}
-
-// The least of two.
-fn least(a: usize, b: usize) -> usize
-    ensures { Least result a b }
-{
-    if b < a {
-        return b;
-    }
-    a
 }
 
 // Opens rule i at position `top`.
@@ -167,10 +141,8 @@ fn close(marks: &mut [u32], stack: &[u32], from: usize, top: usize, to: u32)
     ensures steady { Steady marks.old marks.new }
     ensures by_index { (n : ℕ) → Stacked n marks.old stack.now top → Closes n marks.old marks.new stack.now from to }
 {
-    let mut p = top;
-    while from < p {
-        p -= 1;
-        let i = wide(stack[p]);
+    for p in (from..top).rev() {
+        let i = stack[p] as usize;
         marks[i * MARK_WIDTH + MEMORY] = to;
     }
 }
@@ -212,7 +184,7 @@ fn look(
     ensures looked { (t : Table Span) → Lent t rules.now rows.now → Right (resolve_table text.now t) marks.old → Looked result (resolve_table text.now t) top marks.old marks.new i }
 {
     let at = i * RULE_WIDTH;
-    let end = wide(marks[i * MARK_WIDTH + END]);
+    let end = marks[i * MARK_WIDTH + END] as usize;
     enter(marks, stack, i, top);
     let a = walk(
         rules,
@@ -220,7 +192,7 @@ fn look(
         text,
         marks,
         stack,
-        end - wide(rules[at + ROWS]),
+        end - rules[at + ROWS] as usize,
         end,
         top + 1,
     );
@@ -255,7 +227,7 @@ fn walk(
             }
             Step::Next(j, l) => {
                 i = j;
-                low = least(low, l);
+                low = low.min(l);
             }
             Step::Into(k) => {
                 match look(rules, rows, text, marks, stack, k, high) {
@@ -264,7 +236,7 @@ fn walk(
                     }
                     Outcome::Silent(l, h) => {
                         i -= 1;
-                        low = least(low, l);
+                        low = low.min(l);
                         high = h;
                     }
                 }
@@ -309,10 +281,8 @@ pub fn settle(rules: &[u32], rows: &[u32], text: &[u8], marks: &mut [u32], stack
     names::mark_ends(rules, marks);
     let count = rules.len() / RULE_WIDTH;
     names::forget(marks, count);
-    let mut i = 0;
-    while i < count {
+    for i in 0..count {
         settle_rule(rules, rows, text, marks, stack, i);
-        i += 1;
     }
 }
 
@@ -323,9 +293,8 @@ fn name_stirs(rows: &[u32], text: &[u8], i: usize) -> bool
     requires i_value { kind_at rows.now i ≡ k_ident }
     ensures { result ≡ member (bytes_at text.now (x_at rows.now i, y_at rows.now i)) stack_names }
 {
-    let at = i * ROW_WIDTH;
-    let x = wide(rows[at + X]);
-    let n = wide(rows[at + Y]);
+    let x = rows::x_at(rows, i);
+    let n = rows::y_at(rows, i);
     names::changes_stack(text, x, n)
 }
 
@@ -335,93 +304,44 @@ pub fn still(rows: &[u32], text: &[u8]) -> bool
     ensures { result ≡ true → (t : Table Span) → row_words t ≡ rows.now → steps.each (λ _. steps.restore (resolve_table text.now t)) (resolve_table text.now t) ≡ resolve_table text.now t }
 {
     let count = rows.len() / ROW_WIDTH;
-    let mut i = 0;
-    while i < count {
-        let k = rows[i * ROW_WIDTH];
-        if k == PUSH {
+    for i in 0..count {
+        let k = rows::kind_at(rows, i);
+        if k == PUSH || k == IDENT && name_stirs(rows, text, i) {
             return false;
         }
-        if k == IDENT {
-            if name_stirs(rows, text, i) {
-                return false;
-            }
-        }
-        i += 1;
     }
     true
-}
-
-// The place after a tree that was written, with whether the stack can change through it; or Full where it does not fit.
-#[derive(Clone, Copy)]
-enum Restored {
-    To(Place, bool),
-    Full,
 }
 
 // Whether what is below a row of this kind gets RestoreOnErr: Opt, Rep and Choice.
 fn guards(kind: u32) -> bool
     ensures { result ≡ is_guard kind }
 {
-    if kind == CHOICE {
-        return true;
-    }
-    if kind == OPT {
-        return true;
-    }
-    kind == REP
+    kind == CHOICE || kind == OPT || kind == REP
 }
 
 // What shows through a row of this kind, where b shows below it.
 fn shows(kind: u32, b: bool) -> bool
     ensures { result ≡ shows_through kind b }
 {
-    if kind == PUSH {
-        return true;
-    }
-    if kind != RESTORE_ON_ERR {
-        return b;
-    }
-    false
+    kind == PUSH || kind != RESTORE_ON_ERR && b
 }
 
-// Whether either shows.
-fn either(a: bool, b: bool) -> bool
-    ensures { result ≡ (a || b) }
-{
-    if a {
-        return true;
-    }
-    b
-}
-
-// The answer of a writing of which b shows.
-fn told(a: Wrote, b: bool) -> Restored
-    ensures { result ≡ told_by a b }
-{
-    match a {
-        Wrote::Done(q) => Restored::To(q, b),
-        Wrote::Full => Restored::Full,
-    }
-}
-
-// The same without what shows.
-fn written(a: Restored) -> Wrote
-    ensures { result ≡ wrote_by a }
-{
-    match a {
-        Restored::To(q, _) => Wrote::Done(q),
-        Restored::Full => Wrote::Full,
-    }
-}
-
-// Writes a row over what stands from p to q, of which b shows.
-fn node(out: &mut [u32], p: Place, q: Place, kind: u32, x: u32, y: u32, b: bool) -> Restored
+// Writes a row over what stands from p to q, of which b shows. Told are the place after it, and whether the stack can change through what then stands: so by the functions below.
+fn node(
+    out: &mut [u32],
+    p: Place,
+    q: Place,
+    kind: u32,
+    x: u32,
+    y: u32,
+    b: bool,
+) -> Option<(Place, bool)>
     requires { Over p q out.old }
     ensures { NodeAnswer result p q (kind, x, y) b out.old out.new }
 {
-    let n = q.rows - p.rows + 1;
-    let a = writing::put_row(out, q, kind, x, y, n as u32);
-    told(a, shows(kind, b))
+    let s = writing::put_over(out, p, q, kind, x, y)?;
+    Some((s, shows(kind, b)))
 }
 
 // Whether the stack can change through the name of n bytes at x.
@@ -433,7 +353,7 @@ fn through(rules: &[u32], marks: &[u32], text: &[u8], x: usize, n: usize) -> boo
     if names::changes_stack(text, x, n) {
         return true;
     }
-    let Found::At(i) = names::find_rule(rules, text, marks, text, x, n) else {
+    let Some(i) = names::find_rule(rules, text, marks, text, x, n) else {
         return false;
     };
     marks[i * MARK_WIDTH + MEMORY] == YES
@@ -462,16 +382,16 @@ fn literal(
     out: &mut [u32],
     lits: &mut [u8],
     p: Place,
-) -> Restored
+) -> Option<(Place, bool)>
     requires all_indexed { AllIndexed rules.now text.now marks.now }
     requires y_in_bounds { x + y ≤ length text.now }
     requires room { Room p out.old lits.old }
     ensures { (t : Table Bytes) (k : tree.Lit) → Sure t rules.now text.now marks.now → kind ≡ tree.lit_kind k → RestoredAnswer result p t (tree.lit k (bytes_at text.now (x, y))) out.old out.new lits.old lits.new }
 {
-    let offset = wide(x);
-    let n = wide(y);
-    let a = writing::put_lit(text, offset, n, kind, out, lits, p);
-    told(a, stirs(rules, marks, text, kind, offset, n))
+    let offset = x as usize;
+    let n = y as usize;
+    let q = writing::put_lit(text, offset, n, kind, out, lits, p)?;
+    Some((q, stirs(rules, marks, text, kind, offset, n)))
 }
 
 // Writes a row of numbers, or a Skip with its strings, at p: nothing shows of it.
@@ -482,39 +402,43 @@ fn plain(
     out: &mut [u32],
     lits: &mut [u8],
     p: Place,
-) -> Restored
+) -> Option<(Place, bool)>
     requires inside { Inside rows.now (length text.now) }
     requires stands { Stands rows.now root }
     requires room { Room p out.old lits.old }
     ensures { (t : Table Bytes) (r : Expr Span) → At rows.now root r → changes t (resolve text.now r) ≡ false → RestoredAnswer result p t (resolve text.now r) out.old out.new lits.old lits.new }
 {
-    told(writing::copy(rows, text, root, out, lits, p), false)
+    let q = writing::copy(rows, text, root, out, lits, p)?;
+    Some((q, false))
 }
 
 // Puts a RestoreOnErr over what stands from p to q, of which b shows, where `guard` and b say so.
-fn guarded(out: &mut [u32], p: Place, q: Place, b: bool, guard: bool) -> Restored
+fn guarded(out: &mut [u32], p: Place, q: Place, b: bool, guard: bool) -> Option<(Place, bool)>
     requires { Over p q out.old }
     ensures over_answer { OverAnswer result p out.new }
     ensures becomes { Becomes result q p b (λ t e. guarded_if t guard e) out.old out.new }
 {
-    if guard {
-        if b {
-            return node(out, p, q, RESTORE_ON_ERR, 0, 0, b);
-        }
+    if guard && b {
+        return node(out, p, q, RESTORE_ON_ERR, 0, 0, b);
     }
-    Restored::To(q, b)
+    Some((q, b))
 }
 
 // Writes a row with one child over what stands from p to q, of which b shows: that child, guarded where the row guards.
-fn over(out: &mut [u32], p: Place, q: Place, kind: u32, x: u32, y: u32, b: bool) -> Restored
+fn over(
+    out: &mut [u32],
+    p: Place,
+    q: Place,
+    kind: u32,
+    x: u32,
+    y: u32,
+    b: bool,
+) -> Option<(Place, bool)>
     requires { Over p q out.old }
     ensures over_answer { OverAnswer result p out.new }
     ensures becomes { (u : tree.Un) → (kind, x, y) ≡ tree.un_head u → Becomes result q p b (λ t e. tree.un u (guarded_if t (is_guard (tree.un_head u).0) e)) out.old out.new }
 {
-    let guard = guards(kind);
-    let Restored::To(s, c) = guarded(out, p, q, b, guard) else {
-        return Restored::Full;
-    };
+    let (s, c) = guarded(out, p, q, b, guards(kind))?;
     node(out, p, s, kind, x, y, c)
 }
 
@@ -528,30 +452,16 @@ fn climb(
     q: Place,
     b: bool,
     guard: bool,
-) -> Restored
+) -> Option<(Place, bool)>
     requires climbable { Climbable rows.now base root }
     requires over { Over p q out.old }
     ensures { (r : Expr Span) → At rows.now root r → Becomes result q p b (λ t e. guarded_if t guard (climbed t (ups r) e)) out.old out.new }
 {
     let mut s = q;
     let mut shown = b;
-    let mut i = base;
-    while i < root {
-        i += 1;
-        let Lookup::Row {
-            kind,
-            x,
-            y,
-            size: _,
-        } = rows::row_at(rows, i)
-        else {
-            return Restored::Full;
-        };
-        let Restored::To(z, c) = over(out, p, s, kind, x, y, shown) else {
-            return Restored::Full;
-        };
-        s = z;
-        shown = c;
+    for i in base..root {
+        let row = rows::row_at(rows, i + 1)?;
+        (s, shown) = over(out, p, s, row.kind, row.x, row.y, shown)?;
     }
     guarded(out, p, s, shown, guard)
 }
@@ -568,24 +478,19 @@ fn two(
     out: &mut [u32],
     lits: &mut [u8],
     p: Place,
-) -> Restored
+) -> Option<(Place, bool)>
     requires known { Known rules.now marks.now rows.now text.now }
     requires stands { Stands rows.now root }
     requires room { Room p out.old lits.old }
     requires row_is { RowIs rows.now root kind 0 0 × (shape_of kind ≡ Two) }
     ensures { (t : Table Bytes) (r : Expr Span) → Sure t rules.now text.now marks.now → At rows.now root r → RestoredAnswer result p t (steps.restore t (resolve text.now r)) out.old out.new lits.old lits.new }
 {
+    let left = rows::left_of(rows, root);
     let right = root - 1;
-    let left = right - rows_of(rows, right);
     let guard = guards(kind);
-    let Restored::To(q, b) = put(rules, marks, rows, text, left, guard, out, lits, p) else {
-        return Restored::Full;
-    };
-    let Restored::To(s, c) = put(rules, marks, rows, text, right, guard, out, lits, q) else {
-        return Restored::Full;
-    };
-    let shown = either(b, c);
-    node(out, p, s, kind, 0, 0, shown)
+    let (q, b) = put(rules, marks, rows, text, left, guard, out, lits, p)?;
+    let (s, c) = put(rules, marks, rows, text, right, guard, out, lits, q)?;
+    node(out, p, s, kind, 0, 0, b || c)
 }
 
 // Writes the subtree of row `root`, which has not one child, at p, restored, and tells what shows of it.
@@ -599,30 +504,19 @@ fn bottom(
     out: &mut [u32],
     lits: &mut [u8],
     p: Place,
-) -> Restored
+) -> Option<(Place, bool)>
     requires known { Known rules.now marks.now rows.now text.now }
     requires stands { Stands rows.now root }
     requires room { Room p out.old lits.old }
     requires fact { shape_of (kind_at rows.now root) ≡ One → ⊥ }
     ensures { (t : Table Bytes) (r : Expr Span) → Sure t rules.now text.now marks.now → At rows.now root r → RestoredAnswer result p t (steps.restore t (resolve text.now r)) out.old out.new lits.old lits.new }
 {
-    let Lookup::Row {
-        kind,
-        x,
-        y,
-        size: _,
-    } = rows::row_at(rows, root)
-    else {
-        return Restored::Full;
-    };
-    let shape = rows::shape_of(kind);
-    if let Shape::Two = shape {
-        return two(rules, marks, rows, text, root, kind, out, lits, p);
+    let row = rows::row_at(rows, root)?;
+    match rows::shape_of(row.kind) {
+        Shape::Two => two(rules, marks, rows, text, root, row.kind, out, lits, p),
+        Shape::Lit => literal(rules, marks, text, row.kind, row.x, row.y, out, lits, p),
+        _ => plain(rows, text, root, out, lits, p),
     }
-    if let Shape::Lit = shape {
-        return literal(rules, marks, text, kind, x, y, out, lits, p);
-    }
-    plain(rows, text, root, out, lits, p)
 }
 
 // Writes the subtree of row `root` at p, restored, and if `guard` under a RestoreOnErr where the stack can change through it.
@@ -637,7 +531,7 @@ fn put(
     out: &mut [u32],
     lits: &mut [u8],
     p: Place,
-) -> Restored
+) -> Option<(Place, bool)>
     requires known { Known rules.now marks.now rows.now text.now }
     requires stands { Stands rows.now root }
     requires room { Room p out.old lits.old }
@@ -645,9 +539,7 @@ fn put(
 {
     // no call for each row of a run: a host's stack is short
     let base = chains::below(rows, root);
-    let Restored::To(q, b) = bottom(rules, marks, rows, text, base, out, lits, p) else {
-        return Restored::Full;
-    };
+    let (q, b) = bottom(rules, marks, rows, text, base, out, lits, p)?;
     climb(rows, base, root, out, p, q, b, guard)
 }
 
@@ -658,9 +550,8 @@ fn name_alters(rules: &[u32], marks: &[u32], rows: &[u32], text: &[u8], i: usize
     requires i_value { kind_at rows.now i ≡ k_ident }
     ensures { (t : Table Bytes) → Sure t rules.now text.now marks.now → result ≡ changes t (tree.lit tree.Ident (bytes_at text.now (x_at rows.now i, y_at rows.now i))) }
 {
-    let at = i * ROW_WIDTH;
-    let x = wide(rows[at + X]);
-    let n = wide(rows[at + Y]);
+    let x = rows::x_at(rows, i);
+    let n = rows::y_at(rows, i);
     through(rules, marks, text, x, n)
 }
 
@@ -670,18 +561,11 @@ fn alters(rules: &[u32], marks: &[u32], rows: &[u32], text: &[u8], root: usize) 
     requires stands { Stands rows.now root }
     ensures { result ≡ false → (t : Table Bytes) (r : Expr Span) → Sure t rules.now text.now marks.now → At rows.now root r → steps.restore t (resolve text.now r) ≡ resolve text.now r }
 {
-    let mut i = root + 1 - rows_of(rows, root);
-    while i <= root {
-        let kind = rows[i * ROW_WIDTH];
-        if kind == PUSH {
+    for i in root + 1 - rows::size_at(rows, root)..root + 1 {
+        let kind = rows::kind_at(rows, i);
+        if kind == PUSH || kind == IDENT && name_alters(rules, marks, rows, text, i) {
             return true;
         }
-        if kind == IDENT {
-            if name_alters(rules, marks, rows, text, i) {
-                return true;
-            }
-        }
-        i += 1;
     }
     false
 }
@@ -691,30 +575,32 @@ fn unset(rows: &[u32], root: usize) -> bool
     requires { Stands rows.now root }
     ensures { result ≡ true → (r : Expr Span) → At rows.now root r → Unset rows.now root (size r) }
 {
-    let mut i = root + 1 - rows_of(rows, root);
-    while i <= root {
-        if rows[i * ROW_WIDTH] == RESTORE_ON_ERR {
+    for i in root + 1 - rows::size_at(rows, root)..root + 1 {
+        if rows::kind_at(rows, i) == RESTORE_ON_ERR {
             return false;
         }
-        i += 1;
     }
     true
 }
 
-// What is remembered of rule i, where the subtree of row `root` is its tree.
-fn memory(rules: &[u32], marks: &[u32], i: usize, root: usize) -> u32
+// Whether the stack can change through rule i, where the subtree of row `root` is its tree and the marks settle it.
+fn settled(rules: &[u32], marks: &[u32], i: usize, root: usize) -> Option<bool>
     requires mark_width_in_bounds { length rules.now / rule_width * mark_width ≤ length marks.now }
     requires root_bound { root + 1 < 2 ^ 64 }
-    ensures { result ≡ 2 → SettledNo rules.now marks.now i root }
+    ensures { result ≡ Some false → SettledNo rules.now marks.now i root }
 {
     if i >= rules.len() / RULE_WIDTH {
-        return UNSEEN;
+        return None;
     }
     let at = i * MARK_WIDTH;
-    if wide(marks[at + END]) != root + 1 {
-        return UNSEEN;
+    if marks[at + END] as usize != root + 1 {
+        return None;
     }
-    marks[at + MEMORY]
+    match marks[at + MEMORY] {
+        YES => Some(true),
+        NO => Some(false),
+        _ => None,
+    }
 }
 
 // Whether the marks or the rows show that restoring the subtree of row `root` leaves it as it is.
@@ -725,17 +611,12 @@ fn stays(rules: &[u32], marks: &[u32], rows: &[u32], text: &[u8], i: usize, root
     ensures { result ≡ true → (t : Table Span) (r : Expr Span) → Lent t rules.now rows.now → At rows.now root r → steps.restore (resolve_table text.now t) (resolve text.now r) ≡ resolve text.now r }
 {
     // the names of a rule that is settled need no look
-    let state = memory(rules, marks, i, root);
-    if state == YES {
-        return false;
-    }
-    if state == NO {
+    match settled(rules, marks, i, root) {
+        Some(true) => false,
         // unless a RestoreOnErr hides a change
-        if unset(rows, root) {
-            return true;
-        }
+        Some(false) if unset(rows, root) => true,
+        _ => !alters(rules, marks, rows, text, root),
     }
-    !alters(rules, marks, rows, text, root)
 }
 
 // Step 7 on the subtree of row `root`, packed at p: fastest where it is rule i's. The table is the one that is lent, and its rules are settled.
@@ -749,7 +630,7 @@ pub fn restore(
     out: &mut [u32],
     lits: &mut [u8],
     p: Place,
-) -> Wrote
+) -> Option<Place>
     requires marked { Marked rules.now rows.now text.now marks.now }
     requires settles { Settles rules.now rows.now text.now marks.now }
     requires stands { Stands rows.now root }
@@ -760,5 +641,6 @@ pub fn restore(
     if stays(rules, marks, rows, text, i, root) {
         return writing::copy(rows, text, root, out, lits, p);
     }
-    written(put(rules, marks, rows, text, root, false, out, lits, p))
+    let (q, _) = put(rules, marks, rows, text, root, false, out, lits, p)?;
+    Some(q)
 }

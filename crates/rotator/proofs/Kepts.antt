@@ -1,4 +1,5 @@
 -- A subtree that was read is rotated by what its parts' calls answer. Assumes nothing.
+use Rattle.std.specs.Prelude.{None, Option, Some, IsSome}
 use mathlib.Core.Path.{◌≡◌, refl, sym, ap, subst, ◌∙◌}
 use mathlib.Core.List.{List, [], ◌∷◌, ◌++◌, append_assoc, append-nil}
 use Prim.Native.Nat.{ℕ, ◌+◌, ◌-◌, ◌*◌, ◌/◌, ◌≤◌}
@@ -17,8 +18,6 @@ use Rattle.rows.proofs.Laws.{head_of}
 use Rattle.rows.proofs.Cells.{size_resolve}
 use Rattle.rows.proofs.Views.{TwoView, shape_in}
 use Rattle.writing.specs.declared.Place.{Place}
-use Rattle.writing.specs.declared.Wrote.{Wrote}
-use Rattle.writing.specs.declared.Wrote.TheVariants.{Done, Full}
 use Rattle.writing.specs.Writes.{Areas, Fits}
 use Rattle.writing.specs.Keeps.{KeptAnswer}
 use Rattle.writing.proofs.Trees.{size_packed}
@@ -29,32 +28,33 @@ use Rattle.chains.specs.Runs.{ups, low}
 use Rattle.chains.proofs.Runs.{low_size}
 use Rattle.chains.proofs.Walks.{Leaf, leaf_run}
 use Rattle.rotator.specs.Members.{members, members_of, chain_at, KeptAll, AllAnswer}
-use Rattle.rotator.proofs.Rotations.{rotate_lit, rotate_fixed, rotate_skip, rotate_un, rotate_all, rotate_size, members_bin, members_two, members_some, members_size, members_text, by_bin, by_other}
+use Rattle.rotator.proofs.Rotations.{rotate_lit, rotate_fixed, rotate_skip, rotate_un, rotate_all, members_bin, members_two, members_some, members_size, members_text, by_bin, by_other}
 
 -- ---- trees one after the other
 
-pub all_done : {a : Wrote} {q : Place} (p : Place) (es : List E) (o o' t t' : List ℕ) → a ≡ Done q → AllAnswer a p es o o' t t' → KeptAll q p es o o' t t'
-all_done p es o o' t t' h w = subst (λ (z : Wrote). AllAnswer z p es o o' t t') h w
+pub all_done : {a : Option Place} {q : Place} (p : Place) (es : List E) (o o' t t' : List ℕ) → a ≡ Some q → AllAnswer a p es o o' t t' → KeptAll q p es o o' t t'
+all_done p es o o' t t' h w = subst (λ (z : Option Place). AllAnswer z p es o o' t t') h w
 
-pub all_full : {a : Wrote} (p : Place) (es : List E) (o o' t t' : List ℕ) → a ≡ Full → AllAnswer a p es o o' t t' → ⊥
-all_full p es o o' t t' h w = subst (λ (z : Wrote). AllAnswer z p es o o' t t') h w
+pub all_some : (a : Option Place) (p : Place) (es : List E) (o o' t t' : List ℕ) → AllAnswer a p es o o' t t' → IsSome a
+all_some (Some q) p es o o' t t' w = refl
+all_some None p es o o' t t' w = absurd w
 
-pub all_same : (a : Wrote) (p : Place) {es fs : List E} (o o' t t' : List ℕ) → es ≡ fs → AllAnswer a p es o o' t t' → AllAnswer a p fs o o' t t'
+pub all_same : (a : Option Place) (p : Place) {es fs : List E} (o o' t t' : List ℕ) → es ≡ fs → AllAnswer a p es o o' t t' → AllAnswer a p fs o o' t t'
 all_same a p o o' t t' h w = subst (λ (z : List E). AllAnswer a p z o o' t t') h w
 
 -- one tree alone
-pub all_one : (a : Wrote) (p : Place) (e : E) (o o' t t' : List ℕ) → KeptAnswer a p e o o' t t' → AllAnswer a p (e ∷ []) o o' t t'
-all_one Full p e o o' t t' w = w
-all_one (Done q) p e o o' t t' w = record {
+pub all_one : (a : Option Place) (p : Place) (e : E) (o o' t t' : List ℕ) → KeptAnswer a p e o o' t t' → AllAnswer a p (e ∷ []) o o' t t'
+all_one None p e o o' t t' w = w
+all_one (Some q) p e o o' t t' w = record {
   rows = omega (arith, w.rows);
   text = w.text ∙ rw (append-nil (text_of e));
   words = w.words ∙ rw (append-nil (flat (packed p.text e)));
   bytes = w.bytes ∙ rw (append-nil (text_of e));
 }
 
-pub one_all : (a : Wrote) (p : Place) (e : E) (o o' t t' : List ℕ) → AllAnswer a p (e ∷ []) o o' t t' → KeptAnswer a p e o o' t t'
-one_all Full p e o o' t t' w = w
-one_all (Done q) p e o o' t t' w = record {
+pub one_all : (a : Option Place) (p : Place) (e : E) (o o' t t' : List ℕ) → AllAnswer a p (e ∷ []) o o' t t' → KeptAnswer a p e o o' t t'
+one_all None p e o o' t t' w = w
+one_all (Some q) p e o o' t t' w = record {
   rows = omega (arith, w.rows);
   text = w.text ∙ rw (append-nil (text_of e));
   words = w.words ∙ rw (append-nil (flat (packed p.text e)));
@@ -91,10 +91,10 @@ module _ {s p : Place} {es : List E} {o o₁ t t₁ : List ℕ} (w : KeptAll s p
     place = omega (arith, w.rows, sizes_all, length-take-le (p.rows * row_width) o (omega arith), sizes_packs p.text z.init, size_packed last_text z.last);
   }
 
-  pub all_closed : p.rows ≤ length o / row_width → s.rows + length z.init ≤ length o₁ / row_width → (a : Wrote) (b : Bin) (o₂ : List ℕ)
+  pub all_closed : p.rows ≤ length o / row_width → s.rows + length z.init ≤ length o₁ / row_width → (a : Option Place) (b : Bin) (o₂ : List ℕ)
       → ClosedAnswer a s b (packs p.text z.init) (packed last_text z.last) o₁ o₂ → KeptAnswer a p (chain b z.init z.last) o o₂ t t₁
-  all_closed h l Full b o₂ c = c
-  all_closed h l (Done q) b o₂ c =
+  all_closed h l None b o₂ c = c
+  all_closed h l (Some q) b o₂ c =
       let m = length_packs p.text z.init in
       let k = text_chain b z.init z.last in
       record {
@@ -128,13 +128,10 @@ not_two (un u r) h e = let z : ◌≡◌ {A = ℕ} 0 1 = cc in omega arith
 not_two (bin b l r) h e = h e
 
 -- a run over a leaf: the tree alone, as it was
-pub leaf_all : (t : Bytes) (kind : ℕ) (r : Expr Span) → (shape_in (low r) ≡ Two → ⊥) → (a : Wrote) (p : Place) (o o' u u' : List ℕ) → KeptAnswer a p (resolve t r) o o' u u' → AllAnswer a p (members_of kind (resolve t r)) o o' u u'
+pub leaf_all : (t : Bytes) (kind : ℕ) (r : Expr Span) → (shape_in (low r) ≡ Two → ⊥) → (a : Option Place) (p : Place) (o o' u u' : List ℕ) → KeptAnswer a p (resolve t r) o o' u u' → AllAnswer a p (members_of kind (resolve t r)) o o' u u'
 leaf_all t kind r h a p o o' u u' c =
     all_same a p o o' u u' (by_alone t kind r (not_two r h))
     (all_one a p (rotate (resolve t r)) o o' u u' (subst (λ (z : E). KeptAnswer a p z o o' u u') (sym (leaf_run rotate rotate_un t (rotate_leaf t) r h)) c))
-
-pub rotate_most : (e : E) → size (rotate e) ≤ size e
-rotate_most e = omega (arith, rotate_size e)
 
 -- ---- a node with two children
 
@@ -162,8 +159,8 @@ module _ (t : Bytes) {w : List ℕ} {i k x y n : ℕ} {r : Expr Span} (v : TwoVi
         (all_append first_all (subst (λ (z : List E). KeptAll s q z o₁ o₂ u₁ u₂) (by_bin k v.op (resolve t v.right) v.kind) d))
 
     -- in a chain of its kind: the members of both sides
-    pub same_all : (kind : ℕ) → k ≡ kind → AllAnswer (Done s) p (members_of kind (resolve t r)) o o₂ u u₂
-    same_all kind e = subst (λ (z : E). AllAnswer (Done s) p (members_of kind z) o o₂ u u₂) (sym (ap (resolve t) v.is)) (all_same (Done s) p o o₂ u u₂ (sym (by_bin kind v.op node (sym e ∙ v.kind))) both_all)
+    pub same_all : (kind : ℕ) → k ≡ kind → AllAnswer (Some s) p (members_of kind (resolve t r)) o o₂ u u₂
+    same_all kind e = subst (λ (z : E). AllAnswer (Some s) p (members_of kind z) o o₂ u u₂) (sym (ap (resolve t) v.is)) (all_same (Some s) p o o₂ u u₂ (sym (by_bin kind v.op node (sym e ∙ v.kind))) both_all)
 
     abbrev ends : Snoc (members v.op node)
     ends = as_snoc (members v.op node) (members_some v.op node)
@@ -194,7 +191,7 @@ module _ (t : Bytes) {w : List ℕ} {i k x y n : ℕ} {r : Expr Span} (v : TwoVi
     }
 
     -- closed, it is rotated
-    pub two_rotated : length o₂ ≡ length o → (a : Wrote) (o₃ : List ℕ)
+    pub two_rotated : length o₂ ≡ length o → (a : Option Place) (o₃ : List ℕ)
         → ClosedAnswer a s v.op (packs p.text ends.init) (packed (last_text both_all ends) ends.last) o₂ o₃ → KeptAnswer a p (rotate (resolve t r)) o o₃ u u₂
     two_rotated lo a o₃ g =
         let z = all_closed both_all ends (omega (arith, node_fits.rows)) (room lo) a v.op o₃ g in
@@ -238,19 +235,19 @@ module _ (base root kind : ℕ) where
   alone t (un u r) e h n = by_alone t kind (un u r) (λ d. let y : ◌≡◌ {A = ℕ} 0 1 = cc in omega arith)
   alone t (bin b x y) e h n = sym (by_other kind _ (λ c d. members_two b c _ _ (λ f. n (h ∙ sym (ap bin_kind f) ∙ sym d ∙ sym (own_chain (omega arith))))))
 
-  pub run_rotated : {k : ℕ} (t : Bytes) (r : Expr Span) → base + length (ups r) ≡ root → k ≡ (head_of (low r)).0 → (k ≡ chain_at kind base root → ⊥) → (a : Wrote) (p : Place) (o o' u u' : List ℕ)
+  pub run_rotated : {k : ℕ} (t : Bytes) (r : Expr Span) → base + length (ups r) ≡ root → k ≡ (head_of (low r)).0 → (k ≡ chain_at kind base root → ⊥) → (a : Option Place) (p : Place) (o o' u u' : List ℕ)
       → KeptAnswer a p (rotate (resolve t r)) o o' u u' → AllAnswer a p (members_of kind (resolve t r)) o o' u u'
   run_rotated t r e h n a p o o' u u' c = all_same a p o o' u u' (alone t r e h n) (all_one a p (rotate (resolve t r)) o o' u u' c)
 
 -- in a chain of its kind: the members of both sides
 pub chain_all : (t : Bytes) {w : List ℕ} {i k x y n : ℕ} (r : Expr Span) (v : TwoView w i k x y n (low r)) {p q : Place} {o o₁ u u₁ : List ℕ} → KeptAll q p (members_of k (resolve t v.left)) o o₁ u u₁
     → Fits p (resolve t (low r)) o u → {s : Place} {o₂ u₂ : List ℕ} → KeptAll s q (members_of k (resolve t v.right)) o₁ o₂ u₁ u₂ → (base root kind : ℕ) → base + length (ups r) ≡ root
-    → k ≡ chain_at kind base root → AllAnswer (Done s) p (members_of kind (resolve t r)) o o₂ u u₂
+    → k ≡ chain_at kind base root → AllAnswer (Some s) p (members_of kind (resolve t r)) o o₂ u u₂
 chain_all t r v {p} {o} {u} c h {s} {o₂} {u₂} d base root kind e z =
     let l : low r ≡ r = run_none base root kind r e (v.kind ∙ sym (ap (λ (z : Expr Span). (head_of z).0) v.is)) (ap shape_in v.is) z in
-    subst (λ (z : Expr Span). AllAnswer (Done s) p (members_of kind (resolve t z)) o o₂ u u₂) l (same_all t v c h d kind (run_same base root kind r e l z))
+    subst (λ (z : Expr Span). AllAnswer (Some s) p (members_of kind (resolve t z)) o o₂ u u₂) l (same_all t v c h d kind (run_same base root kind r e l z))
 
 -- no chain's kind
-pub alone_kept : (a : Wrote) (p : Place) (e : E) (o o' u u' : List ℕ) → AllAnswer a p (members_of 0 e) o o' u u' → KeptAnswer a p (rotate e) o o' u u'
+pub alone_kept : (a : Option Place) (p : Place) (e : E) (o o' u u' : List ℕ) → AllAnswer a p (members_of 0 e) o o' u u' → KeptAnswer a p (rotate e) o o' u u'
 unfolding members_of
 alone_kept a p e o o' u u' c = one_all a p (rotate e) o o' u u' c

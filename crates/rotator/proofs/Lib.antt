@@ -2,3 +2,4 @@
 pub mod Rotations
 pub mod Kepts
 pub mod Quiets
+pub mod Walks

@@ -1,11 +1,9 @@
 -- The members of a chain, and what stands where they are written one after the other. Assumes nothing.
-use Rattle.std.specs.Prelude.{◌≡◌, cond, List, [], ◌∷◌, ◌++◌, ℕ, ◌+◌, ◌*◌, length, take, eqb}
+use Rattle.std.specs.Prelude.{◌≡◌, cond, List, [], ◌∷◌, ◌++◌, ℕ, ◌+◌, ◌*◌, length, take, eqb, None, Option, Some}
 use Rattle.grammar.specs.Numbers.{row_width, k_seq, k_choice}
 use Rattle.grammar.specs.Tree.{Bin, Seq, Choice, E, lit, fixed, skip, un, bin}
 use Rattle.grammar.specs.Steps.{rotate}
 use Rattle.writing.specs.declared.Place.{Place}
-use Rattle.writing.specs.declared.Wrote.{Wrote}
-use Rattle.writing.specs.declared.Wrote.TheVariants.{Done, Full}
 use Rattle.chains.specs.Chains.{sizes, flats, texts, packs}
 
 -- the members of a chain of nodes b, in order, each rotated: those of both sides where e is such a node, else e alone
@@ -35,6 +33,6 @@ pub record KeptAll (q p : Place) (es : List E) (o o' t t' : List ℕ) : Type 0 w
   pub bytes : take q.text t' ≡ take p.text t ++ texts es
 
 -- never full: the tree that they are read from fits
-abbrev pub AllAnswer : Wrote → Place → List E → (o o' t t' : List ℕ) → Type 0
-AllAnswer (Done q) p es o o' t t' = KeptAll q p es o o' t t'
-AllAnswer Full p es o o' t t' = ⊥
+abbrev pub AllAnswer : Option Place → Place → List E → (o o' t t' : List ℕ) → Type 0
+AllAnswer (Some q) p es o o' t t' = KeptAll q p es o o' t t'
+AllAnswer None p es o o' t t' = ⊥

@@ -13,8 +13,7 @@ ghost use Rattle.writing.specs.Writes.{Areas};
 ghost use Rattle.writing.specs.Keeps.{KeptAnswer, Ready};
 ghost use Rattle.rotator.specs.Members.{members_of, chain_at, AllAnswer};
 
-use grammar::{ROW_WIDTH, SIZE};
-use writing::{Place, Wrote};
+use writing::Place;
 
 // In place of a chain's kind where there is none: no chain is of Str.
 const NO_CHAIN: u32 = 0;
@@ -36,26 +35,26 @@ fn walk(
     out: &mut [u32],
     lits: &mut [u8],
     p: Place,
-) -> Wrote
+) -> Option<Place>
     requires inside { Inside rows.now (length text.now) }
     requires ready { Ready rows.now text.now root p out.old lits.old }
     requires areas { Areas out.old lits.old }
     ensures { (r : Expr Span) → At rows.now root r → AllAnswer result p (members_of kind (resolve text.now r)) out.old out.new lits.old lits.new }
 {
     let base = chains::below(rows, root);
-    let k = rows[base * ROW_WIDTH];
     if !chains::forks(rows, base) {
         return writing::keep(rows, text, root, out, lits, p);
     }
-    let q = chains::ended(walk(rows, text, k, rows::left_of(rows, base), out, lits, p));
-    let s = chains::ended(walk(rows, text, k, base - 1, out, lits, q));
-    let chain = chain_at(kind, base, root);
-    if k == chain {
-        return Wrote::Done(s);
+    let k = rows::kind_at(rows, base);
+    let left = rows::left_of(rows, base);
+    let q = walk(rows, text, k, left, out, lits, p).unwrap();
+    let s = walk(rows, text, k, base - 1, out, lits, q).unwrap();
+    if k == chain_at(kind, base, root) {
+        return Some(s);
     }
     // there are as many rows as before: those that are missing close the chain
-    let end = p.rows + rows::wide(rows[base * ROW_WIDTH + SIZE]);
-    let e = chains::ended(chains::close(out, s, k, end - s.rows));
+    let end = p.rows + rows::size_at(rows, base);
+    let e = chains::close(out, s, k, end - s.rows).unwrap();
     chains::raise(rows, base, root, out, p, e)
 }
 
@@ -65,7 +64,7 @@ pub fn fires(rows: &[u32], i: usize) -> bool
     requires i_value { kind_at rows.now i / 2 ≡ k_pair }
     ensures { result ≡ false → (t : Bytes) (x : Expr Span) → At rows.now i x → rotate_at (resolve t x) ≡ resolve t x }
 {
-    rows[rows::left_of(rows, i) * ROW_WIDTH] == rows[i * ROW_WIDTH]
+    rows::kind_at(rows, rows::left_of(rows, i)) == rows::kind_at(rows, i)
 }
 
 // Writes the rotated subtree of row `root`, which fits, at p, its literals packed: it is in no chain.
@@ -76,7 +75,7 @@ pub fn rotate(
     out: &mut [u32],
     lits: &mut [u8],
     p: Place,
-) -> Wrote
+) -> Option<Place>
     requires inside { Inside rows.now (length text.now) }
     requires ready { Ready rows.now text.now root p out.old lits.old }
     requires areas { Areas out.old lits.old }

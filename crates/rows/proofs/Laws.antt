@@ -14,8 +14,9 @@ use Rattle.grammar.specs.Numbers.{row_width}
 use Rattle.grammar.specs.Tree.{Head, Str, Un, Bin, lit_kind, fixed_head, un_head, bin_kind, Expr, lit, fixed, skip, un, bin, size}
 use Rattle.grammar.specs.Rows.{Span, row, str_rows, flat}
 use Rattle.grammar.specs.Text.{bytes_at}
-use Rattle.rows.specs.declared.Lookup.TheVariants.{Row, Refused}
-use Rattle.rows.specs.Rows.{kind_at, x_at, y_at, size_at, row_at, At, AtStrs, Tells, Unlike}
+use Rattle.std.specs.Prelude.{Some, None}
+use Rattle.rows.specs.declared.Row.{Row}
+use Rattle.rows.specs.Rows.{kind_at, x_at, y_at, size_at, row_of, row_at, At, AtStrs, Tells, Unlike}
 
 -- ---- a tree's words
 
@@ -177,29 +178,30 @@ pub found_row : (w : List ℕ) (i : ℕ) → i < length w / row_width → Found 
 found_row w i h = record { within = h; kind = refl; x = refl; y = refl; rows = refl }
 
 -- a row that was read
-pub row_found : {w : List ℕ} {i k x y n : ℕ} → row_at w i ≡ Row k x y n → Found w i k x y n
+pub row_found : {w : List ℕ} {i : ℕ} {r : Row} → row_at w i ≡ Some r → Found w i r.kind r.x r.y r.size
 unfolding row_at
-row_found {w} {i} {k} {x} {y} {n} e = go (ltb i (length w / row_width)) refl
+row_found {w} {i} {r} e = go (ltb i (length w / row_width)) refl
   where
-    go : (b : Bool) → ltb i (length w / row_width) ≡ b → Found w i k x y n
+    go : (b : Bool) → ltb i (length w / row_width) ≡ b → Found w i r.kind r.x r.y r.size
     go true t =
-        let q : Row (kind_at w i) (x_at w i) (y_at w i) (size_at w i) ≡ Row k x y n = rw t at e in
-        record { within = ltb-true _ _ t; kind = cc; x = cc; y = cc; rows = cc }
+        let q : Some (row_of w i) ≡ Some r = rw t at e in
+        let p : row_of w i ≡ r = cc in
+        record { within = ltb-true _ _ t; kind = ap (λ (s : Row). s.kind) p; x = ap (λ (s : Row). s.x) p; y = ap (λ (s : Row). s.y) p; rows = ap (λ (s : Row). s.size) p }
     go false t =
-        let q : Refused ≡ Row k x y n = rw t at e in
+        let q : None ≡ Some r = rw t at e in
         let z : ◌≡◌ {A = ℕ} 0 1 = cc in
         absurd (omega arith)
 
 -- a row of the table is found
-pub row_there : (w : List ℕ) (i : ℕ) → i < length w / row_width → row_at w i ≡ Refused → ⊥
+pub row_there : (w : List ℕ) (i : ℕ) → i < length w / row_width → row_at w i ≡ None → ⊥
 unfolding row_at
 row_there w i h e =
-    let q : row_at w i ≡ Row (kind_at w i) (x_at w i) (y_at w i) (size_at w i) = simp (lt-ltb _ _ h) in
+    let q : row_at w i ≡ Some (row_of w i) = simp (lt-ltb _ _ h) in
     let z : ◌≡◌ {A = ℕ} 0 1 = cc in
     omega arith
 
 -- a lookup at a tree's root does not refuse, and what it finds is the tree's root row
-pub root_there : {w : List ℕ} {i : ℕ} {r : Expr Span} → At w i r → row_at w i ≡ Refused → ⊥
+pub root_there : {w : List ℕ} {i : ℕ} {r : Expr Span} → At w i r → row_at w i ≡ None → ⊥
 root_there {w} {i} a = row_there w i (root a).inside
 
 pub root_found : {w : List ℕ} {i : ℕ} {r : Expr Span} → At w i r → Found w i (head_of r).0 (head_of r).1 (head_of r).2 (size r)
@@ -207,6 +209,13 @@ root_found a = let t = root a in record { within = t.inside; kind = t.kind; x = 
 
 pub found_size : {w : List ℕ} {i k x y n : ℕ} {r : Expr Span} → Found w i k x y n → At w i r → n ≡ size r
 found_size f a = sym f.rows ∙ (root a).rows
+
+-- a tree's root that was read: the tree's rows are there, and as many as the row says
+pub read_size : {w : List ℕ} {i : ℕ} {b : Row} {r : Expr Span} → row_at w i ≡ Some b → At w i r → b.size ≡ size r
+read_size e a = found_size (row_found e) a
+
+pub read_fits : {w : List ℕ} {i : ℕ} {b : Row} {r : Expr Span} → row_at w i ≡ Some b → At w i r → (b.size ≤ i + 1) × (i < length w / row_width)
+read_fits e a = let t = root a in (omega (arith, read_size e a, t.most), t.inside)
 
 -- ---- parts of a text
 

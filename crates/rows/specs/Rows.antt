@@ -1,12 +1,11 @@
 -- Rows of four words: what a lookup finds, where a tree stands, and what a row is up to its offset. Assumes nothing.
-use Rattle.std.specs.Prelude.{◌≡◌, Bool, true, false, List, [], ◌∷◌, ◌++◌, ℕ, ◌+◌, ◌*◌, ◌/◌, ◌<◌, ◌≤◌, length, get_or, ltb, eqb}
+use Rattle.std.specs.Prelude.{◌≡◌, Option, Some, None, Bool, true, false, List, [], ◌∷◌, ◌++◌, ℕ, ◌+◌, ◌*◌, ◌/◌, ◌<◌, ◌≤◌, length, get_or, ltb, eqb}
 use Rattle.grammar.specs.Numbers.{row_width, k_str, k_range, k_ident, k_pos_pred, k_seq, k_choice, k_skip}
 use Rattle.grammar.specs.Basic.{Bytes}
 use Rattle.grammar.specs.Tree.{Head, lit_kind, fixed_head, un_head, bin_kind, Expr, E, lit, fixed, skip, un, bin, size}
 use Rattle.grammar.specs.Rows.{Span, str_rows, flat}
 use Rattle.grammar.specs.Text.{bytes_at}
-use Rattle.rows.specs.declared.Lookup.{Lookup}
-use Rattle.rows.specs.declared.Lookup.TheVariants.{Row, Refused}
+use Rattle.rows.specs.declared.Row.{Row}
 use Rattle.rows.specs.declared.Shape.{Shape}
 use Rattle.rows.specs.declared.Shape.TheVariants.{Lit, Num, One, Two, Skips}
 
@@ -23,13 +22,17 @@ y_at w i = get_or w (i * row_width + 2) 0
 unfoldable pub size_at : List ℕ → ℕ → ℕ
 size_at w i = get_or w (i * row_width + 3) 0
 
-abbrev pub pick_lookup : Bool → Lookup → Lookup → Lookup
-pick_lookup true a b = a
-pick_lookup false a b = b
+abbrev pub pick_row : Bool → Row → Option Row
+pick_row true r = Some r
+pick_row false r = None
+
+-- the four words of row i, as a row
+abbrev pub row_of : List ℕ → ℕ → Row
+row_of w i = record { kind = kind_at w i; x = x_at w i; y = y_at w i; size = size_at w i }
 
 -- row i, where all four of its words are there
-unfoldable pub row_at : List ℕ → ℕ → Lookup
-row_at w i = pick_lookup (ltb i (length w / row_width)) (Row (kind_at w i) (x_at w i) (y_at w i) (size_at w i)) Refused
+unfoldable pub row_at : List ℕ → ℕ → Option Row
+row_at w i = pick_row (ltb i (length w / row_width)) (row_of w i)
 
 -- the tree r stands in the words, with its root at row i
 pub record At (w : List ℕ) (i : ℕ) (r : Expr Span) : Type 0 where

@@ -6,20 +6,19 @@ ghost use Rattle.grammar.specs.Numbers.{row_width, k_pair};
 ghost use Rattle.grammar.specs.Tree.{Expr};
 ghost use Rattle.grammar.specs.Rows.{Span};
 ghost use Rattle.grammar.specs.Text.{bytes_at, resolve};
-ghost use Rattle.rows.specs.Rows.{kind_at, size_at, row_at, shape_of, cell_at, Tells, block, Unlike, LitInside, At, Stands, StandsIn};
+ghost use Rattle.rows.specs.Rows.{kind_at, x_at, y_at, size_at, row_at, shape_of, cell_at, Tells, block, Unlike, LitInside, At, Stands, StandsIn};
 
-use grammar::{CHOICE, IDENT, POS_PRED, RANGE, ROW_WIDTH, SEQ, SIZE, SKIP, X, Y};
+use grammar::{
+    CHOICE, IDENT, INSENS, PEEK_SLICE, PEEK_SLICE_END, RANGE, ROW_WIDTH, SEQ, SIZE, SKIP, STR, X, Y,
+};
 
-// What a row lookup finds.
+// A row: its kind, its two numbers, and how many rows its subtree has.
 #[derive(Clone, Copy)]
-pub enum Lookup {
-    Row {
-        kind: u32,
-        x: u32,
-        y: u32,
-        size: u32,
-    },
-    Refused,
+pub struct Row {
+    pub kind: u32,
+    pub x: u32,
+    pub y: u32,
+    pub size: u32,
 }
 
 // What a row of a kind has: a literal, two numbers, one child, two children, strings.
@@ -39,46 +38,66 @@ pub fn wide(x: u32) -> usize
     x as usize
 }
 
-// Row i, or Refused where it is not there.
-pub fn row_at(rows: &[u32], i: usize) -> Lookup
+// Row i, if it is there.
+pub fn row_at(rows: &[u32], i: usize) -> Option<Row>
     ensures { result ≡ row_at rows.now i }
 {
     if i < rows.len() / ROW_WIDTH {
         let at = i * ROW_WIDTH;
-        Lookup::Row {
+        Some(Row {
             kind: rows[at],
             x: rows[at + X],
             y: rows[at + Y],
             size: rows[at + SIZE],
-        }
+        })
     } else {
-        Lookup::Refused
+        None
     }
+}
+
+// The kind of row i.
+pub fn kind_at(rows: &[u32], i: usize) -> u32
+    requires { i < length rows.now / row_width }
+    ensures { result ≡ kind_at rows.now i }
+{
+    rows[i * ROW_WIDTH]
+}
+
+// The x of row i: where its literal begins in the text, if it has one.
+pub fn x_at(rows: &[u32], i: usize) -> usize
+    requires { i < length rows.now / row_width }
+    ensures { result ≡ x_at rows.now i }
+{
+    rows[i * ROW_WIDTH + X] as usize
+}
+
+// The y of row i: how many bytes its literal has, if it has one.
+pub fn y_at(rows: &[u32], i: usize) -> usize
+    requires { i < length rows.now / row_width }
+    ensures { result ≡ y_at rows.now i }
+{
+    rows[i * ROW_WIDTH + Y] as usize
+}
+
+// How many rows the subtree of row i has.
+pub fn size_at(rows: &[u32], i: usize) -> usize
+    requires { i < length rows.now / row_width }
+    ensures { result ≡ size_at rows.now i }
+{
+    rows[i * ROW_WIDTH + SIZE] as usize
 }
 
 // The shape of a kind.
 pub fn shape_of(kind: u32) -> Shape
     ensures { result ≡ shape_of kind }
 {
-    if kind < RANGE {
-        return Shape::Lit;
+    match kind {
+        STR | INSENS | IDENT => Shape::Lit,
+        RANGE | PEEK_SLICE | PEEK_SLICE_END => Shape::Num,
+        SEQ | CHOICE => Shape::Two,
+        SKIP => Shape::Skips,
+        _ => Shape::One,
     }
-    if kind == IDENT {
-        return Shape::Lit;
-    }
-    if kind < POS_PRED {
-        return Shape::Num;
-    }
-    if kind == SEQ {
-        return Shape::Two;
-    }
-    if kind == CHOICE {
-        return Shape::Two;
-    }
-    if kind == SKIP {
-        return Shape::Skips;
-    }
-    Shape::One
 }
 
 // The row of the left side of row i, which has two children (kind 8 or 9); its right side is the row before it.
@@ -88,7 +107,7 @@ pub fn left_of(rows: &[u32], i: usize) -> usize
     ensures { result ≡ i - 1 - size_at rows.now (i - 1) }
 {
     let right = i - 1;
-    right - wide(rows[right * ROW_WIDTH + SIZE])
+    right - size_at(rows, right)
 }
 
 // The bytes of the literal with offset x and length n.
@@ -107,14 +126,7 @@ const BLOCK: usize = 32;
 fn unlike(a: u8, b: u8) -> u8
     ensures { result ≡ 0 → a ≡ b }
 {
-    if a == b { 0 } else { 1 }
-}
-
-// The larger of two bytes.
-fn larger(a: u8, b: u8) -> u8
-    ensures { (a ≤ result) × (b ≤ result) }
-{
-    if a < b { b } else { a }
+    (a != b) as u8
 }
 
 // Whether a block of one text from x and of another from y shows itself as the same. No test in the loop: many bytes go at a time.
@@ -123,10 +135,8 @@ fn same_block(text1: &[u8], x: usize, text2: &[u8], y: usize) -> bool
     ensures { result ≡ true → (k : ℕ) → k < block → get_or text1.now (x + k) 0 ≡ get_or text2.now (y + k) 0 }
 {
     let mut m: u8 = 0;
-    let mut i = 0;
-    while i < BLOCK {
-        m = larger(m, unlike(text1[x + i], text2[y + i]));
-        i += 1;
+    for i in 0..BLOCK {
+        m = m.max(unlike(text1[x + i], text2[y + i]));
     }
     m == 0
 }
@@ -151,12 +161,10 @@ pub fn first_unlike(text1: &[u8], x: usize, text2: &[u8], y: usize, n: usize) ->
     requires { (x + n ≤ length text1.now) × (y + n ≤ length text2.now) }
     ensures { Unlike text1.now x text2.now y n result }
 {
-    let mut i = same_blocks(text1, x, text2, y, n);
-    while i < n {
+    for i in same_blocks(text1, x, text2, y, n)..n {
         if text1[x + i] != text2[y + i] {
             return i;
         }
-        i += 1;
     }
     n
 }
@@ -183,35 +191,29 @@ pub fn same_row(
     requires lit_inside_2 { LitInside rows2.now (length text2.now) j }
     ensures { Tells result (cell_at text1.now rows1.now i ≡ cell_at text2.now rows2.now j) }
 {
-    let Lookup::Row {
-        kind: k,
-        x: x1,
-        y: y1,
-        size: _,
-    } = row_at(rows1, i)
-    else {
+    let Some(first) = row_at(rows1, i) else {
         return false;
     };
-    let Lookup::Row {
-        kind: l,
-        x: x2,
-        y: y2,
-        size: _,
-    } = row_at(rows2, j)
-    else {
+    let Some(second) = row_at(rows2, j) else {
         return false;
     };
-    if k != l {
+    if first.kind != second.kind {
         return false;
     }
     // a literal's length, before its bytes
-    if y1 != y2 {
+    if first.y != second.y {
         return false;
     }
-    if let Shape::Lit = shape_of(k) {
-        same_bytes(text1, x1 as usize, text2, x2 as usize, y1 as usize)
+    if let Shape::Lit = shape_of(first.kind) {
+        same_bytes(
+            text1,
+            first.x as usize,
+            text2,
+            second.x as usize,
+            first.y as usize,
+        )
     } else {
-        x1 == x2
+        first.x == second.x
     }
 }
 
@@ -230,12 +232,10 @@ pub fn same_rows(
     requires by_index_2 { (k : ℕ) → k < n → LitInside rows2.now (length text2.now) (j + k) }
     ensures { Tells result ((k : ℕ) → k < n → cell_at text1.now rows1.now (i + k) ≡ cell_at text2.now rows2.now (j + k)) }
 {
-    let mut k = 0;
-    while k < n {
+    for k in 0..n {
         if !same_row(rows1, text1, i + k, rows2, text2, j + k) {
             return false;
         }
-        k += 1;
     }
     true
 }
@@ -253,27 +253,15 @@ pub fn same_tree(
     requires stands_in_2 { StandsIn rows2.now j (length text2.now) }
     ensures { (r s : Expr Span) → At rows1.now i r → At rows2.now j s → Tells result (resolve text1.now r ≡ resolve text2.now s) }
 {
-    let Lookup::Row {
-        kind: _,
-        x: _,
-        y: _,
-        size: n,
-    } = row_at(rows1, i)
-    else {
+    let Some(first) = row_at(rows1, i) else {
         return false;
     };
-    let Lookup::Row {
-        kind: _,
-        x: _,
-        y: _,
-        size: m,
-    } = row_at(rows2, j)
-    else {
+    let Some(second) = row_at(rows2, j) else {
         return false;
     };
-    if n != m {
+    if first.size != second.size {
         return false;
     }
-    let rows = n as usize;
+    let rows = first.size as usize;
     same_rows(rows1, text1, i + 1 - rows, rows2, text2, j + 1 - rows, rows)
 }

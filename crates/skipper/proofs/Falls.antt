@@ -1,4 +1,5 @@
 -- Step 2 down a run of nodes with one child, and up again over what was written of the tree below. Assumes nothing.
+use Rattle.std.specs.Prelude.{None, Option, Some}
 use mathlib.Core.Path.{◌≡◌, refl, sym, ap, subst, ◌∙◌}
 use mathlib.Core.List.{List, [], ◌∷◌, ◌++◌}
 use Prim.Native.Nat.{ℕ, zero, suc, ◌+◌, ◌-◌, ◌/◌, ◌≤◌, ◌<◌}
@@ -14,8 +15,6 @@ use Rattle.rows.specs.Rows.{At, Stands}
 use Rattle.rows.proofs.Laws.{Found, root, at_un, size_pos}
 use Rattle.rows.proofs.Views.{shape_in, found_head}
 use Rattle.writing.specs.declared.Place.{Place}
-use Rattle.writing.specs.declared.Wrote.{Wrote}
-use Rattle.writing.specs.declared.Wrote.TheVariants.{Done, Full}
 use Rattle.writing.specs.Writes.{Fits, Written, RowPut, RowAnswer}
 use Rattle.writing.proofs.Trees.{done_written, full_not, written_out, un_tree, fits_un}
 use Rattle.chains.specs.Runs.{wrap}
@@ -24,8 +23,6 @@ use Rattle.skipper.specs.Lends.{lists_of}
 use Rattle.skipper.specs.Skips.{node_by, node_of, ListAnswer, Settles, Fell, FellLoop, FellFork, FallAnswer, Rising, RisenAnswer, CrownedAnswer}
 use Rattle.skipper.specs.declared.Fallen.{Fallen}
 use Rattle.skipper.specs.declared.Fallen.TheVariants.{Plain, Looped, Forked}
-use Rattle.skipper.specs.declared.Loop.{Loop}
-use Rattle.skipper.specs.declared.Loop.TheVariants.{Over, Nothing}
 use Rattle.skipper.specs.declared.Node.TheVariants.{Leaf, Single, Pair}
 use Rattle.skipper.proofs.Skipping.{skipped, list_over, list_nothing, settles_none, settles_child, no_child, leaf_skipped, one_view, one_skipped}
 
@@ -80,11 +77,11 @@ module _ {rules : List ℕ} {u : Bytes} {m w : List ℕ} {s : Bytes} {root₀ ba
     falls_fork d t r h a st = record { fell = f.fell t r h a st; kind = sym g.kind; two = d }
 
     -- at a node with one child, where the test of a loop answered
-    module _ {b : Loop} (l : (t : Table Span) (r : Expr Span) → rules ≡ rule_words t → At w base r → ListAnswer b w s (by_marks (lists_of (resolve_table u t) m)) (resolve s r)) where
-      pub falls_loop : {j : ℕ} → b ≡ Over j → (t : Table Span) (r : Expr Span) → rules ≡ rule_words t → At w root₀ r → Settles (resolve_table u t) m (resolve s r) → FellLoop (resolve_table u t) m w s root₀ base j r
+    module _ {b : Option ℕ} (l : (t : Table Span) (r : Expr Span) → rules ≡ rule_words t → At w base r → ListAnswer b w s (by_marks (lists_of (resolve_table u t) m)) (resolve s r)) where
+      pub falls_loop : {j : ℕ} → b ≡ Some j → (t : Table Span) (r : Expr Span) → rules ≡ rule_words t → At w root₀ r → Settles (resolve_table u t) m (resolve s r) → FellLoop (resolve_table u t) m w s root₀ base j r
       falls_loop d t r h a st = let z = f.fell t r h a st in record { fell = z; list = list_over _ _ _ _ (l t z.tree h z.at) d }
 
-      pub falls_more : node_of k ≡ Single → b ≡ Nothing → Falls rules u m w s root₀ (base - 1)
+      pub falls_more : node_of k ≡ Single → b ≡ None → Falls rules u m w s root₀ (base - 1)
       falls_more d c = record {
         stands = let v = one_view s [] g f.stands.at d in record { tree = v.child; at = v.at };
         fell = λ t r h a st.
@@ -120,69 +117,65 @@ drop_all : (us : List Un) → drop (length us) us ≡ []
 drop_all [] = refl
 drop_all (u ∷ us) = drop_all us
 
-abbrev pub up_to : ℕ → Place → Place
-up_to n q = record { rows = n; text = q.text }
-
-pub record Up (w o₀ : List ℕ) (base root : ℕ) (p q : Place) (o : List ℕ) (at i : ℕ) : Type 0 where
+-- what stands from p to s once row i is written
+pub record Up (w o₀ : List ℕ) (base root : ℕ) (p q : Place) (o : List ℕ) (s : Place) (i : ℕ) : Type 0 where
   pub low : base ≤ i
   pub high : i ≤ root
-  pub end : at + base ≡ q.rows + i
+  pub end : s.rows + base ≡ q.rows + i
   pub same : length o ≡ length o₀
-  pub room : at ≤ length o / row_width
-  pub kept : (us : List Un) (r : Expr Span) → At w root (wrap us r) → base + length us ≡ root → (e : E) (b t t₁ : List ℕ) → Written q p e b o₀ t t₁ → Written (up_to at q) p (wrap (drop (root - i) us) e) b o t t₁
+  pub room : s.rows ≤ length o / row_width
+  pub kept : (us : List Un) (r : Expr Span) → At w root (wrap us r) → base + length us ≡ root → (e : E) (b t t₁ : List ℕ) → Written q p e b o₀ t t₁ → Written s p (wrap (drop (root - i) us) e) b o t t₁
 
-pub up_none : {w o₀ : List ℕ} {base root : ℕ} {p q : Place} → Rising w base root p q o₀ → Up w o₀ base root p q o₀ q.rows base
-up_none {w} {o₀} {base} {root} {p} {q} z = record {
+pub up_none : {w o₀ : List ℕ} {base root : ℕ} {p q : Place} → Rising w base root p q o₀ → Up w o₀ base root p q o₀ q base
+up_none {base = base} {root} z = record {
   low = omega arith;
   high = z.order;
   end = refl;
   same = refl;
   room = z.room;
-  kept = λ us r a l e b t t₁ c.
-      let n : root - base ≡ length us = omega arith in
-      rw (n, drop_all us) (record { fits = c.fits; rows = c.rows; text = c.text; words = c.words; bytes = c.bytes });
+  kept = λ us r a l e b t t₁ c. let n : root - base ≡ length us = omega arith in rw (n, drop_all us) c;
 }
 
-row_done : {z : Wrote} {s : Place} (q : Place) (h : Head) (n : ℕ) (o o₁ : List ℕ) → z ≡ Done s → RowAnswer z q h n o o₁ → RowPut s q h n o o₁
-row_done q h n o o₁ d r = subst (λ (z : Wrote). RowAnswer z q h n o o₁) d r
+row_done : {z : Option Place} {s : Place} (q : Place) (h : Head) (n : ℕ) (o o₁ : List ℕ) → z ≡ Some s → RowAnswer z q h n o o₁ → RowPut s q h n o o₁
+row_done q h n o o₁ d r = subst (λ (z : Option Place). RowAnswer z q h n o o₁) d r
 
-row_full : {z : Wrote} (q : Place) (h : Head) (n : ℕ) (o o₁ : List ℕ) → z ≡ Full → RowAnswer z q h n o o₁ → q.rows < length o / row_width → ⊥
-row_full q h n o o₁ d r = subst (λ (z : Wrote). RowAnswer z q h n o o₁) d r
+row_full : {z : Option Place} (q : Place) (h : Head) (n : ℕ) (o o₁ : List ℕ) → z ≡ None → RowAnswer z q h n o o₁ → q.rows < length o / row_width → ⊥
+row_full q h n o o₁ d r = subst (λ (z : Option Place). RowAnswer z q h n o o₁) d r
 
-module _ {w o₀ : List ℕ} {base root₀ : ℕ} {p q : Place} {o : List ℕ} {at i : ℕ} (u : Up w o₀ base root₀ p q o at i) where
-  module _ {z : Wrote} (k x y : ℕ) (o₁ : List ℕ) (v : RowAnswer z (up_to at q) (k, x, y) (at - p.rows + 1) o o₁) (h : i < root₀) where
-    pub up_more : {n : ℕ} {s : Place} → z ≡ Done s → Found w (i + 1) k x y n → length o₁ ≡ length o → Up w o₀ base root₀ p q o₁ (at + 1) (i + 1)
-    up_more d g e₁ = let j = row_done (up_to at q) (k, x, y) _ o o₁ d v in record {
+module _ {w o₀ : List ℕ} {base root₀ : ℕ} {p q : Place} {o : List ℕ} {s : Place} {i : ℕ} (u : Up w o₀ base root₀ p q o s i) where
+  module _ {z : Option Place} (k x y : ℕ) (o₁ : List ℕ) (v : RowAnswer z s (k, x, y) (s.rows - p.rows + 1) o o₁) (h : i < root₀) where
+    pub up_more : {n : ℕ} {s₁ : Place} → z ≡ Some s₁ → Found w (i + 1) k x y n → length o₁ ≡ length o → Up w o₀ base root₀ p q o₁ s₁ (i + 1)
+    up_more {s₁ = s₁} d g e₁ = let j = row_done s (k, x, y) _ o o₁ d v in record {
       low = omega (arith, u.low);
       high = omega arith;
-      end = omega (arith, u.end);
+      end = omega (arith, u.end, j.rows);
       same = e₁ ∙ u.same;
-      room = omega (arith, j.room);
+      room = omega (arith, j.room, j.rows);
       kept = λ us r a c e b t t₁ l.
           let n = node_at us r a (root₀ - (i + 1)) (i + 1) (omega (arith, u.low)) (omega arith) in
           let c₀ = u.kept us r a c e b t t₁ l in
           let e₀ : suc (root₀ - (i + 1)) ≡ root₀ - i = omega arith in
           let s₀ : drop (root₀ - (i + 1)) us ≡ n.op ∷ drop (root₀ - i) us = n.split ∙ ap (λ (m : ℕ). n.op ∷ drop m us) e₀ in
-          rw s₀ (un_tree c₀ (Done (up_to (at + 1) q)) n.op (k, x, y) (at - p.rows + 1) o₁ (found_head g n.at) (omega (arith, c₀.rows)) (record { room = j.room; rows = refl; text = refl; words = j.words }));
+          rw s₀ (un_tree c₀ (Some s₁) n.op (k, x, y) (s.rows - p.rows + 1) o₁ (found_head g n.at) (omega (arith, c₀.rows)) j);
     }
 
-    pub up_full : z ≡ Full → (us : List Un) (r : Expr Span) → At w root₀ (wrap us r) → base + length us ≡ root₀ → RisenAnswer Full q p us o₀ o₁
-    up_full d us r a c e b t t₁ l f = row_full (up_to at q) (k, x, y) _ o o₁ d v (omega (arith, f.rows, size_wrap us e, l.rows, u.end, u.same, written_out l))
+    pub up_full : z ≡ None → (us : List Un) (r : Expr Span) → At w root₀ (wrap us r) → base + length us ≡ root₀ → RisenAnswer None q p us o₀ o₁
+    up_full d us r a c e b t t₁ l f = row_full s (k, x, y) _ o o₁ d v (omega (arith, f.rows, size_wrap us e, l.rows, u.end, u.same, written_out l))
 
   -- at the top of the run
-  pub up_all : i ≡ root₀ → (us : List Un) (r : Expr Span) → At w root₀ (wrap us r) → base + length us ≡ root₀ → RisenAnswer (Done (up_to at q)) q p us o₀ o
+  pub up_all : i ≡ root₀ → (us : List Un) (r : Expr Span) → At w root₀ (wrap us r) → base + length us ≡ root₀ → RisenAnswer (Some s) q p us o₀ o
   up_all h us r a c e b t t₁ l =
       let n : root₀ - i ≡ 0 = omega arith in
       rw n at (u.kept us r a c e b t t₁ l)
 
 -- ---- a row over what was written, and a run over it
 
-module _ {z : Wrote} (p q : Place) (h : Head) (us : List Un) (o₁ o₂ : List ℕ) (k : RowAnswer z q h (q.rows - p.rows + 1) o₁ o₂) where
-  pub crown_full : z ≡ Full → CrownedAnswer Full q p h us o₁ o₂
+module _ {z : Option Place} (p q : Place) (h : Head) (us : List Un) (o₁ o₂ : List ℕ) (k : RowAnswer z q h (q.rows - p.rows + 1) o₁ o₂) where
+  pub crown_full : z ≡ None → CrownedAnswer None q p h us o₁ o₂
   crown_full d e o t t₁ g f = full_not p e o o₂ t t₁ d (g z o₂ k) (fits_wrap us f)
 
-  module _ {s : Place} (d : z ≡ Done s) where
-    pub crown_done : (a : Wrote) (o₃ : List ℕ) → RisenAnswer a s p us o₂ o₃ → CrownedAnswer a q p h us o₁ o₃
+  module _ {s : Place} (d : z ≡ Some s) where
+    pub crown_done : (a : Option Place) (o₃ : List ℕ) → RisenAnswer a s p us o₂ o₃ → CrownedAnswer a q p h us o₁ o₃
     crown_done a o₃ r e o t t₁ g = r e o t t₁ (done_written p e o o₂ t t₁ d (g z o₂ k))
 
     pub crown_rising : {w : List ℕ} {base root : ℕ} → Rising w base root p q o₁ → length o₂ ≡ length o₁ → Rising w base root p s o₂

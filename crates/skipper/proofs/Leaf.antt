@@ -1,8 +1,10 @@
 -- A reading of rows, arm by arm: a leaf, a rule, a Choice. Assumes nothing.
+use Rattle.std.specs.Prelude.{⊤, None, Option, Some, Result, Ok, Err}
 use mathlib.Core.Path.{◌≡◌, refl, sym, ap, subst, ◌∙◌}
 use mathlib.Core.List.{List, [], ◌∷◌}
 use mathlib.Core.Option.{none, some}
 use Prim.Native.Nat.{ℕ, suc, ◌+◌, ◌-◌, ◌*◌, ◌/◌, ◌≤◌, ◌<◌}
+use native.Mathlib.Decide.{dec_le}
 use native.Mathlib.Omega.{arith}
 use lib.ListN.{length, get_or, set}
 use Rattle.grammar.specs.Numbers.{rule_width, rows_word, row_width, mark_width}
@@ -12,17 +14,18 @@ use Rattle.grammar.specs.Rows.{Span}
 use Rattle.grammar.specs.Text.{bytes_at, resolve}
 use Rattle.grammar.specs.Table.{Table, rule_words, row_words, resolve_table, find}
 use Rattle.grammar.proofs.Logic.{some_eq}
-use Rattle.grammar.specs.Lists.{Reading, nothing, strings, and_then, read_left, read_in}
+use Rattle.grammar.specs.Lists.{Reading, nothing, strings, again, and_then, read_left, read_in}
 use Rattle.rows.specs.Rows.{At, kind_at, x_at, y_at, size_at}
 use Rattle.rows.proofs.Laws.{Found, root, size_pos}
 use Rattle.rows.proofs.Cells.{lit_shape, bin_shape}
 use Rattle.rows.proofs.Views.{TwoView, as_lit, as_two, lit_is, two_is}
 use Rattle.names.specs.Names.{rows_before, Ended, First, Finds, memory_word, end_word}
-use Rattle.names.specs.declared.Found.{Found as Found'}
-use Rattle.names.specs.declared.Found.TheVariants.{At as Sited, Nothing}
 use Rattle.names.proofs.Index.{index_kept}
 use Rattle.names.proofs.Finding.{There, there, rule_count, rule_words_lem, looked, not_found, body_at}
-use Rattle.skipper.specs.Lends.{index_from, marks_of, capped, lists_of, Lent, Given, Steady, ReadsOf}
+use Rattle.skipper.specs.declared.Unlisted.{Unlisted}
+use Rattle.skipper.specs.declared.Unlisted.TheVariants.{Again, Absent}
+use Rattle.skipper.specs.Memory.{mark_of, Marks, by_marks, Reads}
+use Rattle.skipper.specs.Lends.{index_from, marks_of, capped, lists_of, Lent, Given, Steady, memory_of, ReadsOf}
 use Rattle.skipper.proofs.Memories.{Monotone, reads_plain, reads_marked, reads_unknown, reads_then, reads_stop, reads_rule}
 use Rattle.skipper.proofs.Rules.{sets_mark, index_first, index_nothing}
 
@@ -37,12 +40,22 @@ given_steady g s l =
       ended = record { end = λ i h. s.end i ∙ g.ended.end i h };
     }
 
+-- the memories that readings leave
+pub memory_least : (a : Result ⊤ Unlisted) → 1 ≤ memory_of a
+memory_least (Ok v) = omega arith
+memory_least (Err Again) = omega arith
+memory_least (Err Absent) = omega arith
+
+pub unlisted : (e : Unlisted) → memory_of (Err e) ≡ 3 → ⊥
+unlisted Again h = omega arith
+unlisted Absent h = omega arith
+
 -- what a search found
-module _ (n : ℕ) (rules : List ℕ) (s x : Bytes) {f : Found'} (h : Finds n rules s x f) where
-  pub finds_at : {i : ℕ} → f ≡ Sited i → First n rules s x i
+module _ (n : ℕ) (rules : List ℕ) (s x : Bytes) {f : Option ℕ} (h : Finds n rules s x f) where
+  pub finds_at : {i : ℕ} → f ≡ Some i → First n rules s x i
   finds_at g = rw g at h
 
-  pub finds_nothing : f ≡ Nothing → Finds n rules s x Nothing
+  pub finds_nothing : f ≡ None → Finds n rules s x None
   finds_nothing g = rw g at h
 
 -- a row whose kind was read
@@ -114,6 +127,15 @@ pub length_table : (s : Bytes) (t : Table Span) → length (resolve_table s t) �
 length_table s [] = refl
 length_table s (r ∷ t) = ap suc (length_table s t)
 
+mark_most : (p : Reading) → mark_of p ≤ 3
+mark_most nothing = omega arith
+mark_most (strings ss) = omega arith
+mark_most again = omega arith
+
+mark_bound : {t : Table Bytes} {st st' : Marks} {v : ℕ} {f : (Bytes → Reading) → Reading} → Reads t st st' v f → Dec (2 ≤ v) → v ≤ 3
+mark_bound {st' = st'} {f = f} h (yes l) = omega (arith, h.settled l, mark_most (f (by_marks st')))
+mark_bound h (no n) = omega arith
+
 -- a name, looked up
 module _ {rules : List ℕ} (t : Table Span) (heads : rules ≡ rule_words t) where
   pub count : length rules / rule_width ≡ length t
@@ -123,18 +145,18 @@ module _ {rules : List ℕ} (t : Table Span) (heads : rules ≡ rule_words t) wh
   rule_there k h = there t k (omega (arith, count))
 
   module _ (s : Bytes) (m : List ℕ) (x : Bytes) where
-    nothing_mark : Finds (length rules / rule_width) rules s x Nothing → marks_of (resolve_table s t) m x ≡ 2
+    nothing_mark : Finds (length rules / rule_width) rules s x None → marks_of (resolve_table s t) m x ≡ 2
     unfolding marks_of
     nothing_mark n = rw (index_nothing 0 t s x (λ j h e. n j (omega (arith, count)) (rw heads e)))
 
-    pub nothing_list : Finds (length rules / rule_width) rules s x Nothing → lists_of (resolve_table s t) m x ≡ 2
+    pub nothing_list : Finds (length rules / rule_width) rules s x None → lists_of (resolve_table s t) m x ≡ 2
     unfolding lists_of
     nothing_list n = ap capped (nothing_mark n)
 
-    pub name_missing : Finds (length rules / rule_width) rules s x Nothing → find (resolve_table s t) x ≡ none
+    pub name_missing : Finds (length rules / rule_width) rules s x None → find (resolve_table s t) x ≡ none
     name_missing n = not_found s x t (rw heads at n)
 
-    pub name_nothing : Finds (length rules / rule_width) rules s x Nothing → ReadsOf s t m m 2 (λ look. look x)
+    pub name_nothing : Finds (length rules / rule_width) rules s x None → ReadsOf s t m m 2 (λ look. look x)
     name_nothing n = record { read = λ known. reads_unknown x known (nothing_mark n) }
 
     module _ {k : ℕ} (f : First (length rules / rule_width) rules s x k) where
@@ -162,6 +184,15 @@ module _ {rules : List ℕ} (t : Table Span) (heads : rules ≡ rule_words t) wh
           let q : marks_of (resolve_table s t) m x ≡ v = name_mark ∙ sym e in
           record { read = λ known. rw q at (reads_marked x _ (name_found (rule_there k f.below)) known (rw q (omega arith))) }
 
+      -- the reading a that left the mark v
+      pub name_recalled : (a : Result ⊤ Unlisted) (v : ℕ) → v ≡ get_or m (k * mark_width + memory_word) 0 → (v ≡ 0 → ⊥) → (1 ≤ v → v ≤ 3 → memory_of a ≡ v) → ReadsOf s t m m (memory_of a) (λ look. look x)
+      name_recalled a v e z g =
+          record {
+            read = λ known.
+                let h = (name_marked v e z).read known in
+                rw (g (omega arith) (mark_bound h (dec_le 2 v))) h;
+          }
+
       pub name_read : {m₂ : List ℕ} {v : ℕ} (r : There t k) → k * mark_width + memory_word < length m → k * mark_width + memory_word < length m₂ → get_or m (k * mark_width + memory_word) 0 ≡ 0
           → ReadsOf s t (set m (k * mark_width + memory_word) 1) m₂ v (λ look. read_in look (resolve s r.rule.body))
           → ReadsOf s t m (set m₂ (k * mark_width + memory_word) v) v (λ look. look x)
@@ -175,6 +206,10 @@ module _ {rules rows : List ℕ} {t : Table Span} (lent : Lent rules rows t) whe
 
   pub rule_before : {m : List ℕ} (k : ℕ) (r : There t k) → k < length rules / rule_width → Ended rules m → (end : ℕ) → end ≡ get_or m (k * mark_width + end_word) 0 → At rows (end - 1) r.rule.body
   rule_before k r h d end e = rw e (rule_stands k r h d)
+
+  -- its root's row
+  pub rule_inside : {m : List ℕ} (k : ℕ) → k < length rules / rule_width → Ended rules m → get_or m (k * mark_width + end_word) 0 - 1 < length rows / row_width
+  rule_inside k h d = (root (rule_stands k (rule_there t lent.heads k h) h d)).inside
 
   pub rule_end : {m : List ℕ} (k : ℕ) → k < length rules / rule_width → Ended rules m → 1 ≤ get_or m (k * mark_width + end_word) 0
   rule_end k h d =

@@ -1,4 +1,5 @@
 -- A loop (!e ~ ANY)*: how its expression is found, and that its leaves are read as they stand after rotation. Assumes nothing.
+use Rattle.std.specs.Prelude.{Option as Option'}
 use mathlib.Core.Path.{◌≡◌, refl, sym, ap₂, ◌∙◌, subst, fun_ext}
 use mathlib.Core.Bool.{true, false}
 use mathlib.Core.List.{List}
@@ -12,13 +13,13 @@ use Rattle.grammar.specs.Table.{Table}
 use Rattle.grammar.specs.Lists.{ANY, Reading, and_then, read_left, read_in, loop_over}
 use Rattle.grammar.specs.Steps.{rotate}
 use Rattle.grammar.proofs.Leaves.{read_leaves, rotated_read}
-use Rattle.rows.specs.Rows.{At}
+use Rattle.rows.specs.Rows.{At, Stands, kind_at, x_at, y_at, size_at}
 use Rattle.rows.proofs.Laws.{Found, root, found_size}
 use Rattle.rows.proofs.Cells.{lit_shape, bin_shape, un_shape}
 use Rattle.rows.proofs.Views.{TwoView, OneView, as_lit, as_one, as_two, lit_some, one_some, two_some, lit_none, two_none}
 use Rattle.skipper.specs.Lends.{ReadsOf}
+use Rattle.skipper.proofs.Leaf.{read_found_lem}
 use Rattle.skipper.specs.Loops.{OverAt, LoopAnswer}
-use Rattle.skipper.specs.declared.Loop.{Loop}
 
 -- the leaves, one after the other
 pub rotated_step : (l e : E) → ◌≡◌ {A = (Bytes → Reading) → Reading} (λ look. read_in look (rotate (bin Choice l e))) (λ look. and_then (read_in look (rotate l)) (read_in look (rotate e)))
@@ -76,6 +77,14 @@ module _ (e : E) where
     unfolding loop_over
     loop_any y g d = rw (h, g, d) (with_any (as_neg_pred l))
 
+-- the Seq, and the row that it has on its right
+module _ {w : List ℕ} {i k : ℕ} {r : Expr Span} (a : At w i r) (e : k ≡ kind_at w i) (z : k ≡ 8) where
+  pub seq_here : TwoView w i k (x_at w i) (y_at w i) (size_at w i) r
+  seq_here = as_two (read_found_lem a e) a (rw z (bin_shape Seq))
+
+  pub right_here : {k' : ℕ} → k' ≡ kind_at w (i - 1) → Found w (i - 1) k' (x_at w (i - 1)) (y_at w (i - 1)) (size_at w (i - 1))
+  right_here c = read_found_lem seq_here.at_right c
+
 module _ (s : Bytes) {w : List ℕ} {i k x y n : ℕ} {r : Expr Span} (f : Found w i k x y n) (a : At w i r) where
   pub loop_not_seq : (k ≡ 8 → ⊥) → loop_over (un Rep (resolve s r)) ≡ none
   loop_not_seq z = loop_no_seq (resolve s r) (two_none s 8 f a z)
@@ -95,14 +104,17 @@ module _ (s : Bytes) {w : List ℕ} {i k x y n : ℕ} {r : Expr Span} (f : Found
         is_ident : as_ident (resolve s seq_view.right) ≡ some (bytes_at s (x', y'))
         is_ident = lit_some s 3 d (as_lit g seq_view.at_right (rw d (lit_shape Ident)))
 
-        pub right_one : size seq_view.right ≡ 1
+        right_one : size seq_view.right ≡ 1
         right_one = sym (found_size g seq_view.at_right) ∙ (as_lit g seq_view.at_right (rw d (lit_shape Ident))).rows
 
         pub left_at : At w (i - 1 - 1) seq_view.left
         left_at = rw right_one at seq_view.at_left
 
+        pub before_any : Stands w (i - 1 - 1)
+        before_any = record { tree = seq_view.left; at = left_at }
+
         pub loop_not_any : same_bytes (bytes_at s (x', y')) ANY ≡ false → loop_over (un Rep (resolve s r)) ≡ none
         loop_not_any c = loop_no_any (resolve s r) _ _ is_seq _ is_ident c
 
-        pub loop_with_any : (b : Loop) → same_bytes (bytes_at s (x', y')) ANY ≡ true → LoopAnswer b w s (as_neg_pred (resolve s seq_view.left)) → LoopAnswer b w s (loop_over (un Rep (resolve s r)))
+        pub loop_with_any : (b : Option' ℕ) → same_bytes (bytes_at s (x', y')) ANY ≡ true → LoopAnswer b w s (as_neg_pred (resolve s seq_view.left)) → LoopAnswer b w s (loop_over (un Rep (resolve s r)))
         loop_with_any b c h = rw (loop_any (resolve s r) _ _ is_seq _ is_ident c) h

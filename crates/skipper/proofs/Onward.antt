@@ -1,6 +1,7 @@
 -- The strings of an expression, written in a loop: what is still to come, and what its writing says of the whole. Assumes nothing.
+use Rattle.std.specs.Prelude.{None, Option, Some}
 use mathlib.Core.Path.{◌≡◌, refl, ◌∙◌}
-use mathlib.Core.List.{List, []}
+use mathlib.Core.List.{List}
 use Prim.Native.Nat.{ℕ, ◌+◌, ◌-◌, ◌*◌, ◌^◌, ◌≤◌, ◌<◌}
 use native.Mathlib.Omega.{arith}
 use lib.ListN.{length}
@@ -16,24 +17,16 @@ use Rattle.rows.proofs.Views.{TwoView}
 use Rattle.names.specs.Names.{IsName}
 use Rattle.writing.specs.Writes.{Room, LitAnswer, StrsAnswer}
 use Rattle.writing.specs.declared.Place.{Place}
-use Rattle.writing.specs.declared.Wrote.{Wrote}
-use Rattle.writing.specs.declared.Wrote.TheVariants.{Done, Full}
 use Rattle.skipper.specs.Lends.{Lent}
 use Rattle.skipper.specs.Ways.{Spells}
-use Rattle.skipper.specs.Skips.{node_of, Spelled, literal_at, BodyAt}
-use Rattle.skipper.specs.declared.Node.TheVariants.{Pair}
+use Rattle.skipper.specs.Skips.{Spelled, literal_at, BodyAt}
 use Rattle.skipper.proofs.Leaf.{left_stands, choice_view}
-use Rattle.skipper.proofs.Skipping.{two_view}
 use Rattle.skipper.proofs.Spelling.{Split, spell_str, spell_ident, spell_name, spell_leaf, spell_choice, name_fuel, str_wrote, strs_room, strs_both, strs_over}
 use Rattle.skipper.proofs.Ways.{spells_known}
 
 -- a row as it stands
 pub here : {w : List ℕ} {i : ℕ} {r : Expr Span} → At w i r → Found w i (kind_at w i) (x_at w i) (y_at w i) (size_at w i)
 here {w} {i} a = found_row w i (root a).inside
-
--- its two children
-pub pair : {w : List ℕ} {i : ℕ} {r : Expr Span} (a : At w i r) → node_of (kind_at w i) ≡ Pair → TwoView w i (kind_at w i) (x_at w i) (y_at w i) (size_at w i) r
-pair a z = two_view [] [] (here a) a z
 
 -- both sides of a Choice
 module _ {w : List ℕ} {i : ℕ} {r : Expr Span} (a : At w i r) (z : kind_at w i ≡ 9) where
@@ -56,7 +49,7 @@ pub record Onward (v : List ℕ) (s u : Bytes) (t : Table Span) (ss : List Bytes
   pub at : At v i tree
   pub rest : List Bytes
   pub spells : Spells (resolve_table u t) n (λ look. read_in look (resolve s tree)) rest
-  pub wrote : (a : Wrote) (o₂ l₂ : List ℕ) → StrsAnswer a q rest o o₂ l l₂ → StrsAnswer a p ss o₀ o₂ l₀ l₂
+  pub wrote : (a : Option Place) (o₂ l₂ : List ℕ) → StrsAnswer a q rest o o₂ l l₂ → StrsAnswer a p ss o₀ o₂ l₀ l₂
 
 module _ {v : List ℕ} {s u : Bytes} {t : Table Span} {ss : List Bytes} {p : Place} {o₀ l₀ : List ℕ} {i n : ℕ} {q : Place} {o l : List ℕ} (h : Onward v s u t ss p o₀ l₀ i n q o l) where
   -- a Choice: its left side, then its right side
@@ -64,7 +57,7 @@ module _ {v : List ℕ} {s u : Bytes} {t : Table Span} {ss : List Bytes} {p : Pl
     pub parts : Split (resolve_table u t) n (resolve s (fork h.at z).left) (resolve s (fork h.at z).right) h.rest
     parts = spell_choice s (here h.at) h.at z h.spells
 
-    pub left_done : {a : Wrote} {p' : Place} (o₁ l₁ : List ℕ) → a ≡ Done p' → StrsAnswer a q parts.front o o₁ l l₁ → Onward v s u t ss p o₀ l₀ (i - 1) n p' o₁ l₁
+    pub left_done : {a : Option Place} {p' : Place} (o₁ l₁ : List ℕ) → a ≡ Some p' → StrsAnswer a q parts.front o o₁ l l₁ → Onward v s u t ss p o₀ l₀ (i - 1) n p' o₁ l₁
     left_done o₁ l₁ d k = record {
       tree = (fork h.at z).right;
       at = (fork h.at z).at_right;
@@ -73,15 +66,15 @@ module _ {v : List ℕ} {s u : Bytes} {t : Table Span} {ss : List Bytes} {p : Pl
       wrote = λ b o₂ l₂ j. h.wrote b o₂ l₂ (strs_both q o o₁ l l₁ parts.front d k b parts.rest o₂ l₂ parts.is j);
     }
 
-    pub left_full : {a : Wrote} (o₁ l₁ : List ℕ) → a ≡ Full → StrsAnswer a q parts.front o o₁ l l₁ → StrsAnswer Full p ss o₀ o₁ l₀ l₁
-    left_full o₁ l₁ d k = h.wrote Full o₁ l₁ (λ f. strs_over q o o₁ l l₁ parts.front parts.rest h.rest d k parts.is f)
+    pub left_full : {a : Option Place} (o₁ l₁ : List ℕ) → a ≡ None → StrsAnswer a q parts.front o o₁ l l₁ → StrsAnswer None p ss o₀ o₁ l₀ l₁
+    left_full o₁ l₁ d k = h.wrote None o₁ l₁ (λ f. strs_over q o o₁ l l₁ parts.front parts.rest h.rest d k parts.is f)
 
   -- the last leaf
   module _ (no_choice : kind_at v i ≡ 9 → ⊥) where
     pub last_leaf : Spells (resolve_table u t) n (λ look. read_left look (resolve s h.tree)) h.rest
     last_leaf = spell_leaf s (here h.at) h.at no_choice h.spells
 
-    pub last_str : kind_at v i ≡ 0 → (a : Wrote) (o₂ l₂ : List ℕ) → LitAnswer a q 0 (literal_at v s i) o o₂ l l₂ → StrsAnswer a p ss o₀ o₂ l₀ l₂
+    pub last_str : kind_at v i ≡ 0 → (a : Option Place) (o₂ l₂ : List ℕ) → LitAnswer a q 0 (literal_at v s i) o o₂ l l₂ → StrsAnswer a p ss o₀ o₂ l₀ l₂
     last_str z a o₂ l₂ k = h.wrote a o₂ l₂ (str_wrote a q o o₂ l l₂ refl (spell_str s (here h.at) h.at z last_leaf) k)
 
     -- a name: the expression of its rule, through a rule less
@@ -114,10 +107,10 @@ pub go_first : {rules w : List ℕ} {u : Bytes} {v : List ℕ} {s : Bytes} {top 
 go_first d m = record { first = d; goes = λ t r ss e a h. record { tree = r; at = a; rest = ss; spells = h; wrote = λ b o₂ l₂ k. k }; room = m; words = refl; bytes = refl; less = omega arith }
 
 -- what is written of the whole, and of a leaf at row j
-abbrev pub AllWrote : Wrote → (rules w : List ℕ) → Bytes → List ℕ → Bytes → (top fuel : ℕ) → Place → (o₀ o₁ l₀ l₁ : List ℕ) → Type 0
+abbrev pub AllWrote : Option Place → (rules w : List ℕ) → Bytes → List ℕ → Bytes → (top fuel : ℕ) → Place → (o₀ o₁ l₀ l₁ : List ℕ) → Type 0
 AllWrote a rules w u v s top fuel p o₀ o₁ l₀ l₁ = (t : Table Span) (r : Expr Span) (ss : List Bytes) → Lent rules w t → At v top r → Spells (resolve_table u t) fuel (λ look. read_in look (resolve s r)) ss → StrsAnswer a p ss o₀ o₁ l₀ l₁
 
-abbrev pub LeafWrote : Wrote → (rules w : List ℕ) → Bytes → List ℕ → Bytes → (j n : ℕ) → Place → (o o₁ l l₁ : List ℕ) → Type 0
+abbrev pub LeafWrote : Option Place → (rules w : List ℕ) → Bytes → List ℕ → Bytes → (j n : ℕ) → Place → (o o₁ l l₁ : List ℕ) → Type 0
 LeafWrote a rules w u v s j n q o o₁ l l₁ = (t : Table Span) (r : Expr Span) (ss : List Bytes) → Lent rules w t → At v j r → Spells (resolve_table u t) n (λ look. read_left look (resolve s r)) ss → StrsAnswer a q ss o o₁ l l₁
 
 module _ {rules w : List ℕ} {u : Bytes} {v : List ℕ} {s : Bytes} {top fuel : ℕ} {p : Place} {o₀ l₀ : List ℕ} {i n : ℕ} {q : Place} {o l : List ℕ} (g : Going rules w u v s top fuel p o₀ l₀ i n q o l) where
@@ -128,8 +121,8 @@ module _ {rules w : List ℕ} {u : Bytes} {v : List ℕ} {s : Bytes} {top fuel :
     pub go_spelled : Spelled rules w u v s j n read_left
     go_spelled = record { table = g.first.table; lent = g.first.lent; tree = (fork ahead.at z).left; at = fork_left ahead.at z e; list = (parts ahead z).front; spells = (parts ahead z).left }
 
-    module _ {a : Wrote} (o₁ l₁ : List ℕ) where
-      pub go_left : {p' : Place} → a ≡ Done p' → LeafWrote a rules w u v s j n q o o₁ l l₁ → length o₁ ≡ length o → length l₁ ≡ length l → Going rules w u v s top fuel p o₀ l₀ (i - 1) n p' o₁ l₁
+    module _ {a : Option Place} (o₁ l₁ : List ℕ) where
+      pub go_left : {p' : Place} → a ≡ Some p' → LeafWrote a rules w u v s j n q o o₁ l l₁ → length o₁ ≡ length o → length l₁ ≡ length l → Going rules w u v s top fuel p o₀ l₀ (i - 1) n p' o₁ l₁
       go_left d k ho hl = record {
         first = g.first;
         goes = λ t r ss f b m. let h = g.goes t r ss f b m in left_done h z o₁ l₁ d (k t (fork h.at z).left (parts h z).front f (fork_left h.at z e) (parts h z).left);
@@ -139,7 +132,7 @@ module _ {rules w : List ℕ} {u : Bytes} {v : List ℕ} {s : Bytes} {top fuel :
         less = omega (arith, g.less, fork_less ahead.at z);
       }
 
-      pub go_full : a ≡ Full → LeafWrote a rules w u v s j n q o o₁ l l₁ → AllWrote Full rules w u v s top fuel p o₀ o₁ l₀ l₁
+      pub go_full : a ≡ None → LeafWrote a rules w u v s j n q o o₁ l l₁ → AllWrote None rules w u v s top fuel p o₀ o₁ l₀ l₁
       go_full d k t r ss f b m = let h = g.goes t r ss f b m in left_full h z o₁ l₁ d (k t (fork h.at z).left (parts h z).front f (fork_left h.at z e) (parts h z).left)
 
   -- the last leaf
@@ -147,7 +140,7 @@ module _ {rules w : List ℕ} {u : Bytes} {v : List ℕ} {s : Bytes} {top fuel :
     pub go_last : Spelled rules w u v s i n read_left
     go_last = record { table = g.first.table; lent = g.first.lent; tree = ahead.tree; at = ahead.at; list = ahead.rest; spells = last_leaf ahead no_choice }
 
-    pub go_end : (a : Wrote) (o₂ l₂ : List ℕ) → LeafWrote a rules w u v s i n q o o₂ l l₂ → AllWrote a rules w u v s top fuel p o₀ o₂ l₀ l₂
+    pub go_end : (a : Option Place) (o₂ l₂ : List ℕ) → LeafWrote a rules w u v s i n q o o₂ l l₂ → AllWrote a rules w u v s top fuel p o₀ o₂ l₀ l₂
     go_end a o₂ l₂ k t r ss f b m = let h = g.goes t r ss f b m in h.wrote a o₂ l₂ (k t h.tree h.rest f h.at (last_leaf h no_choice))
 
 -- a name as the last leaf of a rule

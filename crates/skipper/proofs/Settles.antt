@@ -1,4 +1,5 @@
 -- Loops that are read: one, the rows of a tree, the rules of a table. Assumes nothing.
+use Rattle.std.specs.Prelude.{⊤, None, Option as Option', Some, Result, Ok, Err}
 use mathlib.Core.Path.{◌≡◌, refl, sym, ap, ap₂, ◌∙◌}
 use mathlib.Core.Bool.{false≢true, Bool, true, false, ◌||◌}
 use mathlib.Core.List.{List, [], ◌∷◌}
@@ -7,6 +8,8 @@ use Prim.Native.Nat.{ℕ, ◌+◌, ◌-◌, ◌≤◌, ◌<◌}
 use native.Mathlib.Decide.{dec_le}
 use native.Mathlib.Omega.{arith}
 use lib.ListN.{length}
+use Rattle.grammar.specs.declared.Refusal.{Refusal}
+use Rattle.grammar.specs.declared.Refusal.TheVariants.{Cycle}
 use Rattle.grammar.specs.Basic.{Bytes}
 use Rattle.grammar.specs.Tree.{Str, Rep, E, Expr, lit, fixed, skip, un, bin, as_rep, size, any_node}
 use Rattle.grammar.specs.Rows.{Span}
@@ -20,10 +23,10 @@ use Rattle.rows.proofs.Laws.{Found, root, at_un, at_left_lem, at_right_lem, at_s
 use Rattle.rows.proofs.Cells.{un_shape}
 use Rattle.rows.proofs.Views.{OneView, as_one, one_some, one_none}
 use Rattle.skipper.specs.Memory.{mark_of, name_list, Marks, by_marks, Known, Opened, Grows}
-use Rattle.skipper.specs.Lends.{marks_of, ReadsOf, Lent, Steady}
+use Rattle.skipper.specs.declared.Unlisted.{Unlisted}
+use Rattle.skipper.specs.declared.Unlisted.TheVariants.{Again, Absent}
+use Rattle.skipper.specs.Lends.{marks_of, memory_of, ReadsOf, Lent, Steady}
 use Rattle.skipper.specs.Loops.{OverAt, LoopAnswer, TreeRows, open_in, open_at, Idle, Settled, LoopsOf}
-use Rattle.skipper.specs.declared.Loop.{Loop}
-use Rattle.skipper.specs.declared.Loop.TheVariants.{Over, Nothing}
 use Rattle.skipper.proofs.Memories.{Below, in_mono, marks_grow, grows_none, grows_more}
 use Rattle.skipper.proofs.Rules.{steady_none, steady_more}
 
@@ -48,23 +51,40 @@ not_again nothing h = omega arith
 not_again (strings ss) h = omega arith
 not_again again h = absurd (false≢true (sym h))
 
+-- an answer is one or the other
+pub ok_not_err : {v : ⊤} {r : Refusal} → ◌≡◌ {A = Result ⊤ Refusal} (Ok v) (Err r) → ⊥
+ok_not_err e = let z : ◌≡◌ {A = ℕ} 0 1 = cc in omega arith
+
+-- what a list that is read answers: refusal 7 where it came to an open rule
+abbrev pub loop_answer : Result ⊤ Unlisted → Result ⊤ Refusal
+loop_answer (Ok v) = Ok (record {})
+loop_answer (Err Again) = Err Cycle
+loop_answer (Err Absent) = Ok (record {})
+
+err_eq : {r d : Refusal} → ◌≡◌ {A = Result ⊤ Refusal} (Err r) (Err d) → r ≡ d
+err_eq e = cc
+
 -- a list that is read
-loops_read : {s : Bytes} {t : Table Span} {m m' : List ℕ} {a : ℕ} (x : E) → 1 ≤ a → ReadsOf s t m m' a (λ look. read_in look (rotate x)) → LoopsOf s t m m' a (λ look. is_again (read_in look (rotate x)))
-loops_read {s} {t} {m} {m'} {a} x l h =
-    record {
-      met = λ k i e. again_is (read_in (name_list (resolve_table s t) []) (rotate x)) ((h.read k).met e [] (idle_opened i));
-      settled = λ k i n.
-          let b : 2 ≤ a = more l n in
-          record { known = (h.read k).known b; grows = (h.read k).grows b; no = again_not (read_in (by_marks (marks_of (resolve_table s t) m')) (rotate x)) (rw ((h.read k).settled b) b) };
-    }
-  where
-    more : 1 ≤ a → (a ≡ 1 → ⊥) → 2 ≤ a
-    more l n = omega arith
+loops_settled : {s : Bytes} {t : Table Span} {m m' : List ℕ} {a : ℕ} (x : E) → 2 ≤ a → ReadsOf s t m m' a (λ look. read_in look (rotate x)) → LoopsOf s t m m' (Ok (record {})) (λ look. is_again (read_in look (rotate x)))
+loops_settled {s} {t} {m} {m'} {a} x b h = record {
+  cycle = λ r e. absurd (ok_not_err e);
+  met = λ k i e. absurd (ok_not_err e);
+  settled = λ k i n. record { known = (h.read k).known b; grows = (h.read k).grows b; no = again_not (read_in (by_marks (marks_of (resolve_table s t) m')) (rotate x)) (rw ((h.read k).settled b) b) };
+}
 
-pub loops_none : {s : Bytes} {t : Table Span} {m : List ℕ} {a : ℕ} → (a ≡ 1 → ⊥) → LoopsOf s t m m a (λ look. false)
-loops_none n = record { met = λ k i e. absurd (n e); settled = λ k i e. record { known = k; grows = grows_none; no = refl } }
+loops_read : {s : Bytes} {t : Table Span} {m m' : List ℕ} (a : Result ⊤ Unlisted) (x : E) → ReadsOf s t m m' (memory_of a) (λ look. read_in look (rotate x)) → LoopsOf s t m m' (loop_answer a) (λ look. is_again (read_in look (rotate x)))
+loops_read {s} {t} {m} {m'} (Err Again) x h = record {
+  cycle = λ r e. sym (err_eq e);
+  met = λ k i e. again_is (read_in (name_list (resolve_table s t) []) (rotate x)) ((h.read k).met refl [] (idle_opened i));
+  settled = λ k i e. absurd (ok_not_err (sym e));
+}
+loops_read (Err Absent) x h = loops_settled x (omega arith) h
+loops_read (Ok v) x h = loops_settled x (omega arith) h
 
-loops_at : {s : Bytes} {t : Table Span} {m m' : List ℕ} {a : ℕ} (e : E) (o : Option E) → loop_over e ≡ o → LoopsOf s t m m' a (λ look. open_in look o) → LoopsOf s t m m' a (λ look. open_at look e)
+pub loops_none : {s : Bytes} {t : Table Span} {m : List ℕ} → LoopsOf s t m m (Ok (record {})) (λ look. false)
+loops_none = record { cycle = λ r e. absurd (ok_not_err e); met = λ k i e. absurd (ok_not_err e); settled = λ k i e. record { known = k; grows = grows_none; no = refl } }
+
+loops_at : {s : Bytes} {t : Table Span} {m m' : List ℕ} {a : Result ⊤ Refusal} (e : E) (o : Option E) → loop_over e ≡ o → LoopsOf s t m m' a (λ look. open_in look o) → LoopsOf s t m m' a (λ look. open_at look e)
 unfolding open_at
 loops_at e o h l = rw h l
 
@@ -78,8 +98,8 @@ loop_rep e c h = rw h
 
 -- row i
 module _ (s : Bytes) {w : List ℕ} {i k x y n : ℕ} {r : Expr Span} (f : Found w i k x y n) (a : At w i r) where
-  pub loop_no : {t : Table Span} {m : List ℕ} {v : ℕ} → (k ≡ 11 → ⊥) → (v ≡ 1 → ⊥) → LoopsOf s t m m v (λ look. open_at look (resolve s r))
-  loop_no z n = loops_at (resolve s r) none (loop_no_rep (resolve s r) (one_none s 11 f a z)) (loops_none n)
+  pub loop_no : {t : Table Span} {m : List ℕ} → (k ≡ 11 → ⊥) → LoopsOf s t m m (Ok (record {})) (λ look. open_at look (resolve s r))
+  loop_no z = loops_at (resolve s r) none (loop_no_rep (resolve s r) (one_none s 11 f a z)) loops_none
 
   module _ (z : k ≡ 11) where
     pub rep_view : OneView w i k x y n r
@@ -88,15 +108,15 @@ module _ (s : Bytes) {w : List ℕ} {i k x y n : ℕ} {r : Expr Span} (f : Found
     pub rep_is : loop_over (resolve s r) ≡ loop_over (un Rep (resolve s rep_view.child))
     rep_is = loop_rep (resolve s r) (resolve s rep_view.child) (one_some s 11 z rep_view)
 
-    module _ {b : Loop} (h : LoopAnswer b w s (loop_over (un Rep (resolve s rep_view.child)))) where
-      pub loop_nothing : {t : Table Span} {m : List ℕ} {v : ℕ} → b ≡ Nothing → (v ≡ 1 → ⊥) → LoopsOf s t m m v (λ look. open_at look (resolve s r))
-      loop_nothing e n = loops_at (resolve s r) none (rep_is ∙ rw e at h) (loops_none n)
+    module _ {b : Option' ℕ} (h : LoopAnswer b w s (loop_over (un Rep (resolve s rep_view.child)))) where
+      pub loop_nothing : {t : Table Span} {m : List ℕ} → b ≡ None → LoopsOf s t m m (Ok (record {})) (λ look. open_at look (resolve s r))
+      loop_nothing e = loops_at (resolve s r) none (rep_is ∙ rw e at h) loops_none
 
-      pub loop_over_lem : {j : ℕ} → b ≡ Over j → OverAt j w s (loop_over (un Rep (resolve s rep_view.child)))
+      pub loop_over_lem : {j : ℕ} → b ≡ Some j → OverAt j w s (loop_over (un Rep (resolve s rep_view.child)))
       loop_over_lem e = rw e at h
 
-      pub loop_list : {t : Table Span} {m m' : List ℕ} {j v : ℕ} → b ≡ Over j → 1 ≤ v → ((q : Expr Span) → At w j q → ReadsOf s t m m' v (λ look. read_in look (rotate (resolve s q)))) → LoopsOf s t m m' v (λ look. open_at look (resolve s r))
-      loop_list e l g = let o = loop_over_lem e in loops_at (resolve s r) (some (resolve s o.tree)) (rep_is ∙ o.is) (loops_read (resolve s o.tree) l (g o.tree o.at))
+      pub loop_list : {t : Table Span} {m m' : List ℕ} {j : ℕ} (v : Result ⊤ Unlisted) → b ≡ Some j → ((q : Expr Span) → At w j q → ReadsOf s t m m' (memory_of v) (λ look. read_in look (rotate (resolve s q)))) → LoopsOf s t m m' (loop_answer v) (λ look. open_at look (resolve s r))
+      loop_list v e g = let o = loop_over_lem e in loops_at (resolve s r) (some (resolve s o.tree)) (rep_is ∙ o.is) (loops_read v (resolve s o.tree) (g o.tree o.at))
 
 -- what is settled stays settled
 pub open_mono : (look look' : Bytes → Reading) → ((x : Bytes) → Below (look x) (look' x)) → (e : E) → open_at look e ≡ false → open_at look' e ≡ false
@@ -222,16 +242,17 @@ module _ {rules rows : List ℕ} {text : Bytes} {m m₁ : List ℕ} {from end i 
     pub row_in : (r : Expr Span) → At rows (end - 1) r → Within text rows i r
     row_in r a = row_within text r a (omega (arith, same_size tr.at a, tr.rows, inv.low, tree_last tr)) (omega (arith, tree_last tr))
 
-    module _ {m₂ : List ℕ} {v : ℕ} (h : (t : Table Span) (q : Expr Span) → Lent rules rows t → At rows i q → LoopsOf text t m₁ m₂ v (λ look. open_at look (resolve text q))) where
-      pub rows_met : (t : Table Span) (r : Expr Span) → Lent rules rows t → At rows (end - 1) r → v ≡ 1 → LoopsOf text t m m₂ v (λ look. any_node (open_at look) (resolve text r))
-      rows_met t r l a e =
+    module _ {m₂ : List ℕ} {v : Result ⊤ Refusal} (h : (t : Table Span) (q : Expr Span) → Lent rules rows t → At rows i q → LoopsOf text t m₁ m₂ v (λ look. open_at look (resolve text q))) where
+      pub rows_met : {d : Refusal} → v ≡ Err d → (t : Table Span) (r : Expr Span) → Lent rules rows t → At rows (end - 1) r → LoopsOf text t m m₂ (Err d) (λ look. any_node (open_at look) (resolve text r))
+      rows_met e t r l a =
           let q = row_in r a in
           record {
-            met = λ k id z. let x = inv.settled t l k id in q.up (name_list (resolve_table text t) []) ((h t q.tree l q.at).met x.known (idle_grows id x.grows) e);
-            settled = λ k id n. absurd (n e);
+            cycle = λ z c. (h t q.tree l q.at).cycle z (e ∙ c);
+            met = λ k id z. let x = inv.settled t l k id in q.up (name_list (resolve_table text t) []) ((h t q.tree l q.at).met x.known (idle_grows id x.grows) (e ∙ z));
+            settled = λ k id n. absurd (ok_not_err (sym n));
           }
 
-      pub rows_next : Steady m₁ m₂ → length m₂ ≡ length m₁ → (v ≡ 1 → ⊥) → RowsRead rules rows text m m₂ from end (i + 1)
+      pub rows_next : Steady m₁ m₂ → length m₂ ≡ length m₁ → v ≡ Ok (record {}) → RowsRead rules rows text m m₂ from end (i + 1)
       rows_next s g n =
           let q = row_in tr.tree tr.at in
           record {
@@ -243,10 +264,11 @@ module _ {rules rows : List ℕ} {text : Bytes} {m m₁ : List ℕ} {from end i 
                 rows_more text (resolve_table text t) rows (marks_of (resolve_table text t) m) from q.tree x q.at (λ p b. (h t p l b).settled x.known (idle_grows id x.grows) n);
           }
 
-  pub rows_end : {v : ℕ} → RowsRead rules rows text m m₁ from end i → end ≤ i → (v ≡ 1 → ⊥) → (t : Table Span) (r : Expr Span) → Lent rules rows t → At rows (end - 1) r → LoopsOf text t m m₁ v (λ look. any_node (open_at look) (resolve text r))
-  rows_end inv le n t r l a =
+  pub rows_end : RowsRead rules rows text m m₁ from end i → end ≤ i → (t : Table Span) (r : Expr Span) → Lent rules rows t → At rows (end - 1) r → LoopsOf text t m m₁ (Ok (record {})) (λ look. any_node (open_at look) (resolve text r))
+  rows_end inv le t r l a =
       let e : i ≡ end = omega (arith, inv.high) in
       record {
-        met = λ k id z. absurd (n z);
+        cycle = λ z c. absurd (ok_not_err c);
+        met = λ k id z. absurd (ok_not_err z);
         settled = λ k id z. rows_done text (resolve_table text t) rows (marks_of (resolve_table text t) m) from r (rw e at (inv.settled t l k id)) a (ap (λ (b : ℕ). from + b) (same_size a tr.at) ∙ tr.rows);
       }

@@ -1,4 +1,5 @@
 -- Step 2, node by node: on trees, and of what was read and written. Assumes nothing.
+use Rattle.std.specs.Prelude.{None, Option as Option', Some}
 use mathlib.Core.Path.{◌≡◌, refl, sym, ap, ◌∙◌}
 use mathlib.Core.Bool.{false≢true, Bool, true, false, ◌&&◌, ◌||◌}
 use mathlib.Core.List.{List, [], ◌∷◌}
@@ -7,7 +8,7 @@ use Prim.Native.Nat.{ℕ, zero, suc, ◌+◌, ◌-◌, ◌/◌, ◌≤◌, ◌<�
 use native.Mathlib.Omega.{arith}
 use borrow.Author.Tests.{ne_eqb}
 use lib.ListN.{length, get_elem?}
-use Rattle.grammar.specs.Numbers.{rule_width, row_width}
+use Rattle.grammar.specs.Numbers.{rule_width, row_width, k_pair}
 use Rattle.grammar.specs.Basic.{Bytes, ◌>>=◌, any, or_else}
 use Rattle.grammar.specs.Tree.{E, Expr, lit, fixed, skip, un, bin, any_node}
 use Rattle.grammar.specs.Rows.{Span, str_rows}
@@ -19,25 +20,21 @@ use Rattle.grammar.proofs.Logic.{none_some, some_eq}
 use Rattle.grammar.proofs.TopDown.{skip_step_lem}
 use Rattle.rows.specs.declared.Shape.{Shape}
 use Rattle.rows.specs.declared.Shape.TheVariants.{Lit, Num, One, Two, Skips}
-use Rattle.rows.specs.Rows.{At, kind_at, shape_of}
+use Rattle.rows.specs.Rows.{At, kind_at, x_at, y_at, size_at, shape_of}
 use Rattle.rows.proofs.Laws.{Found, root, head_of}
-use Rattle.rows.proofs.Views.{OneView, TwoView, as_one, as_two, shape_in_lem, shape_in}
+use Rattle.rows.proofs.Views.{OneView, TwoView, as_one, as_two, shape_in_lem, shape_in, bin_half}
 use Rattle.writing.specs.Writes.{Areas, Fits, Put, RowAnswer, StrsAnswer, Answer}
 use Rattle.writing.specs.declared.Place.{Place}
-use Rattle.writing.specs.declared.Wrote.{Wrote}
-use Rattle.writing.specs.declared.Wrote.TheVariants.{Done, Full}
 use Rattle.writing.proofs.Puts.{put_done, put_full, put_out}
 use Rattle.writing.proofs.Trees.{skip_tree, fits_strs}
 use Rattle.skipper.specs.Memory.{mark_of, by_marks, Known}
 use Rattle.skipper.specs.Lends.{lists_of, Lent}
 use Rattle.skipper.specs.Lists.{unread_at, Lists}
 use Rattle.skipper.specs.Ways.{Spells}
-use Rattle.skipper.specs.Skips.{node_by, node_of, is_list, ListAt, ListAnswer, Settles, Rising}
-use Rattle.skipper.specs.declared.Loop.{Loop}
-use Rattle.skipper.specs.declared.Loop.TheVariants.{Over, Nothing}
+use Rattle.skipper.specs.Skips.{node_by, node_of, is_list, ListAt, ListAnswer, Skipped, Settles, Rising}
 use Rattle.skipper.specs.declared.Node.TheVariants.{Leaf, Single, Pair}
 use Rattle.skipper.proofs.Memories.{in_mono, settled_so}
-use Rattle.skipper.proofs.Leaf.{length_table, count}
+use Rattle.skipper.proofs.Leaf.{read_found_lem, length_table, count}
 use Rattle.skipper.proofs.Rotation.{skip_is}
 use Rattle.skipper.proofs.Tables.{or_first, or_second}
 
@@ -124,11 +121,11 @@ module _ {t : Table Bytes} {m : List ℕ} where
 -- On rows
 
 -- what the test of a loop answered
-module _ {b : Loop} (w : List ℕ) (s : Bytes) (look : Bytes → Reading) (e : E) (h : ListAnswer b w s look e) where
-  pub list_over : {j : ℕ} → b ≡ Over j → ListAt j w s look e
+module _ {b : Option' ℕ} (w : List ℕ) (s : Bytes) (look : Bytes → Reading) (e : E) (h : ListAnswer b w s look e) where
+  pub list_over : {j : ℕ} → b ≡ Some j → ListAt j w s look e
   list_over d = rw d at h
 
-  pub list_nothing : b ≡ Nothing → (x : E) → loop_over e ≡ some x → is_list (read_in look x) ≡ false
+  pub list_nothing : b ≡ None → (x : E) → loop_over e ≡ some x → is_list (read_in look x) ≡ false
   list_nothing d = rw d at h
 
 one_shape : (k : ℕ) → node_of k ≡ Single → shape_of k ≡ One
@@ -154,9 +151,8 @@ two_shape k = go (shape_of k)
     go Skips h = let z : ◌≡◌ {A = ℕ} 0 1 = cc in absurd (omega arith)
 
 -- the kind of a Choice
-pub choice_node : {w : List ℕ} {i k : ℕ} {r : Expr Span} → At w i r → k ≡ kind_at w i → k ≡ 9 → node_of (kind_at w i) ≡ Pair
-unfolding node_of
-choice_node a e z = rw (sym e ∙ z)
+pub choice_half : {w : List ℕ} {i k : ℕ} {r : Expr Span} → At w i r → k ≡ kind_at w i → k ≡ 9 → kind_at w i / 2 ≡ k_pair
+choice_half a e z = omega (arith, e, z)
 
 leaf_node : {w : List ℕ} {i : ℕ} (r : Expr Span) → At w i r → node_of (head_of r).0 ≡ node_by (shape_in r)
 unfolding node_of
@@ -189,8 +185,22 @@ module _ (s : Bytes) (t : Table Bytes) {w : List ℕ} {i k x y n : ℕ} {r : Exp
     pub two_view : TwoView w i k x y n r
     two_view = as_two f a (two_shape k d)
 
+    pub two_half : k / 2 ≡ k_pair
+    two_half = bin_half two_view.op two_view.kind
+
     pub two_skipped : skipped t (resolve s r) ≡ bin two_view.op (skipped t (resolve s two_view.left)) (skipped t (resolve s two_view.right))
     two_skipped = skip_stays t (resolve s r) (skip_none t (resolve s r) (pair_none (resolve s r) _ _ _ (ap (resolve s) two_view.is))) ∙ ap (λ (q : Expr Span). children (skipped t) (resolve s q)) two_view.is
+
+-- at a row whose kind was read
+module _ (s : Bytes) (t : Table Bytes) {w : List ℕ} {i k : ℕ} {r : Expr Span} (a : At w i r) (z : (k ≡ kind_at w i) × (node_of k ≡ Pair)) where
+  abbrev pub fork_view : TwoView w i k (x_at w i) (y_at w i) (size_at w i) r
+  fork_view = two_view s t (read_found_lem a z.0) a z.1
+
+  pub fork_half : kind_at w i / 2 ≡ k_pair
+  fork_half = rw (← z.0) (two_half s t (read_found_lem a z.0) a z.1)
+
+  pub fork_skipped : skipped t (resolve s r) ≡ bin fork_view.op (skipped t (resolve s fork_view.left)) (skipped t (resolve s fork_view.right))
+  fork_skipped = two_skipped s t (read_found_lem a z.0) a z.1
 
 -- the children of a tree whose loops are settled
 settles_un : {t : Table Bytes} {m : List ℕ} {u : Rattle.grammar.specs.Tree.Un} (e c : E) → e ≡ un u c → Settles t m e → Settles t m c
@@ -225,11 +235,11 @@ skip_spells {rules} {t = t} u x l h =
     let e : length rules / rule_width + 1 ≡ suc (length (resolve_table u t)) = omega (arith, count t l.heads, length_table u t) in
     record { opened = []; reads = rw e h }
 
-module _ {z : Wrote} (p : Place) (ss : List Bytes) (o o₁ b b₁ : List ℕ) (h : StrsAnswer z p ss o o₁ b b₁) where
-  pub skip_full : z ≡ Full → Fits p (skip ss) o b → ⊥
+module _ {z : Option' Place} (p : Place) (ss : List Bytes) (o o₁ b b₁ : List ℕ) (h : StrsAnswer z p ss o o₁ b b₁) where
+  pub skip_full : z ≡ None → Fits p (skip ss) o b → ⊥
   skip_full d f = put_full p _ _ _ o o₁ b b₁ d h (fits_strs f)
 
-  module _ {q : Place} (d : z ≡ Done q) where
+  module _ {q : Place} (d : z ≡ Some q) where
     put : Put q p (length ss) (str_rows (spans p.text ss)) (joined ss) o o₁ b b₁
     put = put_done p _ _ _ o o₁ b b₁ d h
 
@@ -242,7 +252,7 @@ module _ {z : Wrote} (p : Place) (ss : List Bytes) (o o₁ b b₁ : List ℕ) (h
       words = omega (arith, a.words, put_out put);
     }
 
-    pub skip_done : (a : Wrote) (o₂ : List ℕ) → RowAnswer a q (17, q.rows - p.rows, 0) (q.rows - p.rows + 1) o₁ o₂ → Answer a p (skip ss) o o₂ b b₁
+    pub skip_done : (a : Option' Place) (o₂ : List ℕ) → RowAnswer a q (17, q.rows - p.rows, 0) (q.rows - p.rows + 1) o₁ o₂ → Answer a p (skip ss) o o₂ b b₁
     skip_done a o₂ r =
         let n : q.rows - p.rows ≡ length ss = omega (arith, put.rows) in
         skip_tree ss put a (17, q.rows - p.rows, 0) (q.rows - p.rows + 1) o₂ (rw n) (rw n) r
@@ -270,3 +280,9 @@ lists_settle {t} {m} j r l e a =
       targets = l.targets;
       settled = rw a at (any_none (λ r. is_atomic r.type && any_node (unread_at (by_marks (lists_of t m))) (rotate r.body)) t j r l.settled e);
     }
+
+-- the room after the strings of a loop
+pub loop_rising : {rules rows : List ℕ} {u : Bytes} {w : List ℕ} {s : Bytes} {i : ℕ} (z : Skipped rules rows u w s i) {a : Option' Place} {p q : Place} (o o₁ b b₁ : List ℕ) {base root : ℕ}
+    → ((t : Table Span) (r : Expr Span) (ss : List Bytes) → Lent rules rows t → At w i r → Spells (resolve_table u t) (length rules / rule_width + 1) (λ look. read_in look (resolve s r)) ss → StrsAnswer a p ss o o₁ b b₁)
+    → a ≡ Some q → Areas o b → (base ≤ root) × (root < length w / row_width) → Rising w base root p q o₁
+loop_rising z {p = p} o o₁ b b₁ h d l g = strs_rising p z.list o o₁ b b₁ (h z.table z.tree z.list z.lent z.at (skip_spells _ _ z.lent z.reads)) d l g

@@ -1,4 +1,6 @@
 -- Which expressions have a list by the marks, and how the strings of a list are spelt out, rule by rule. Assumes nothing.
+use Rattle.std.specs.Bool.{then_some}
+use Rattle.std.specs.Prelude.{None, Option, Some}
 use mathlib.Core.Path.{◌≡◌, refl, sym, ap, ◌∙◌}
 use mathlib.Core.Bool.{Bool, true, false, ◌&&◌, cond}
 use mathlib.Core.List.{List, [], ◌∷◌, ◌++◌}
@@ -21,8 +23,6 @@ use Rattle.rows.proofs.Cells.{lit_shape}
 use Rattle.rows.proofs.Views.{as_lit, lit_is, two_is, one_none}
 use Rattle.writing.specs.Writes.{Areas, Room, Fit, LitAnswer, StrsAnswer}
 use Rattle.writing.specs.declared.Place.{Place}
-use Rattle.writing.specs.declared.Wrote.{Wrote}
-use Rattle.writing.specs.declared.Wrote.TheVariants.{Done, Full}
 use Rattle.writing.proofs.Puts.{put_done, put_full, put_room}
 use Rattle.writing.proofs.Trees.{strs_one, strs_append}
 use Rattle.skipper.specs.Memory.{by_mark}
@@ -30,8 +30,6 @@ use Rattle.skipper.specs.Lends.{capped}
 use Rattle.skipper.specs.Loops.{LoopAnswer}
 use Rattle.skipper.specs.Ways.{Spells}
 use Rattle.skipper.specs.Skips.{is_list, ListAnswer}
-use Rattle.skipper.specs.declared.Loop.{Loop}
-use Rattle.skipper.specs.declared.Loop.TheVariants.{Over, Nothing}
 use Rattle.skipper.proofs.Leaf.{choice_view}
 use Rattle.skipper.proofs.Settles.{loop_no_rep, rep_view, rep_is, loop_over_lem}
 
@@ -169,7 +167,7 @@ pub spell_choice : (s : Bytes) {t : Table Bytes} {m : ℕ} {ss : List Bytes} {w 
 spell_choice s {t} {m} f a z h = spell_split h.opened (sym (choice_read s (read_name m t h.opened) f a z) ∙ h.reads)
 
 -- what the writing of a string says
-pub str_wrote : {ss : List Bytes} {u v : Bytes} (a : Wrote) (p : Place) (o o' t t' : List ℕ) → u ≡ v → v ∷ [] ≡ ss → LitAnswer a p 0 u o o' t t' → StrsAnswer a p ss o o' t t'
+pub str_wrote : {ss : List Bytes} {u v : Bytes} (a : Option Place) (p : Place) (o o' t t' : List ℕ) → u ≡ v → v ∷ [] ≡ ss → LitAnswer a p 0 u o o' t t' → StrsAnswer a p ss o o' t t'
 str_wrote {v = v} a p o o' t t' d e h = rw (← e) (strs_one a p v o o' t t' (rw d at h))
 
 -- what does not fit does not fit with more after it
@@ -178,11 +176,11 @@ joined_length [] ts = omega arith
 joined_length (s ∷ ss) ts = omega (arith, length-append s (joined (ss ++ ts)), length-append s (joined ss), joined_length ss ts)
 
 -- the strings of a left side that were written, and those of the right side after them
-module _ (p : Place) {q : Place} {z : Wrote} (o o₁ t t₁ : List ℕ) (ss : List Bytes) (d : z ≡ Done q) (h : StrsAnswer z p ss o o₁ t t₁) where
+module _ (p : Place) {q : Place} {z : Option Place} (o o₁ t t₁ : List ℕ) (ss : List Bytes) (d : z ≡ Some q) (h : StrsAnswer z p ss o o₁ t t₁) where
   pub strs_room : Areas o t → Room q o₁ t₁
   strs_room a = put_room (put_done p _ _ _ o o₁ t t₁ d h) a
 
-  pub strs_both : {us : List Bytes} (a : Wrote) (ts : List Bytes) (o₂ t₂ : List ℕ) → ss ++ ts ≡ us → StrsAnswer a q ts o₁ o₂ t₁ t₂ → StrsAnswer a p us o o₂ t t₂
+  pub strs_both : {us : List Bytes} (a : Option Place) (ts : List Bytes) (o₂ t₂ : List ℕ) → ss ++ ts ≡ us → StrsAnswer a q ts o₁ o₂ t₁ t₂ → StrsAnswer a p us o o₂ t t₂
   strs_both a ts o₂ t₂ e g = rw (← e) (strs_append ss (put_done p _ _ _ o o₁ t t₁ d h) a ts o₂ t₂ g)
 
 strs_front : {p : Place} {o t : List ℕ} (ss ts us : List Bytes) → ss ++ ts ≡ us → Fit p (length us) (length (joined us)) o t → Fit p (length ss) (length (joined ss)) o t
@@ -190,24 +188,28 @@ strs_front ss ts us e f = record { rows = omega (arith, f.rows, ap length e, len
 
 -- Which loops have a list
 module _ (s : Bytes) (look : Bytes → Reading) {w : List ℕ} {i k x y n : ℕ} {r : Expr Span} (f : Found w i k x y n) (a : At w i r) where
-  no_list : loop_over (resolve s r) ≡ none → ListAnswer Nothing w s look (resolve s r)
+  no_list : loop_over (resolve s r) ≡ none → ListAnswer None w s look (resolve s r)
   no_list h e d = none_some (sym h ∙ d)
 
-  pub list_no_rep : (k ≡ 11 → ⊥) → ListAnswer Nothing w s look (resolve s r)
+  pub list_no_rep : (k ≡ 11 → ⊥) → ListAnswer None w s look (resolve s r)
   list_no_rep z = no_list (loop_no_rep (resolve s r) (one_none s 11 f a z))
 
-  module _ (z : k ≡ 11) {b : Loop} (h : LoopAnswer b w s (loop_over (un Rep (resolve s (rep_view s f a z).child)))) where
-    pub list_no_loop : b ≡ Nothing → ListAnswer Nothing w s look (resolve s r)
+  module _ (z : k ≡ 11) {b : Option ℕ} (h : LoopAnswer b w s (loop_over (un Rep (resolve s (rep_view s f a z).child)))) where
+    pub list_no_loop : b ≡ None → ListAnswer None w s look (resolve s r)
     list_no_loop e = no_list (rep_is s f a z ∙ rw e at h)
 
-    pub list_yes : {j : ℕ} → b ≡ Over j → ((q : Expr Span) → At w j q → is_list (read_in look (resolve s q)) ≡ true) → ListAnswer (Over j) w s look (resolve s r)
+    list_yes : {j : ℕ} → b ≡ Some j → ((q : Expr Span) → At w j q → is_list (read_in look (resolve s q)) ≡ true) → ListAnswer (Some j) w s look (resolve s r)
     list_yes e g = let o = loop_over_lem s f a z h e in record { tree = o.tree; at = o.at; is = rep_is s f a z ∙ o.is; list = g o.tree o.at }
 
-    pub list_no : {j : ℕ} → b ≡ Over j → ((q : Expr Span) → At w j q → is_list (read_in look (resolve s q)) ≡ false) → ListAnswer Nothing w s look (resolve s r)
+    list_no : {j : ℕ} → b ≡ Some j → ((q : Expr Span) → At w j q → is_list (read_in look (resolve s q)) ≡ false) → ListAnswer None w s look (resolve s r)
     list_no e g c d =
         let o = loop_over_lem s f a z h e in
         let q : resolve s o.tree ≡ c = some_eq (resolve s o.tree) c (sym (rep_is s f a z ∙ o.is) ∙ d) in
         rw (← q) (g o.tree o.at)
 
-pub strs_over : (p : Place) {z : Wrote} (o o₁ t t₁ : List ℕ) (ss ts us : List Bytes) → z ≡ Full → StrsAnswer z p ss o o₁ t t₁ → ss ++ ts ≡ us → Fit p (length us) (length (joined us)) o t → ⊥
+    pub list_if : {j : ℕ} {d : Bool} → b ≡ Some j → ((q : Expr Span) → At w j q → is_list (read_in look (resolve s q)) ≡ d) → ListAnswer (then_some d j) w s look (resolve s r)
+    list_if {d = true} e g = list_yes e g
+    list_if {d = false} e g = list_no e g
+
+pub strs_over : (p : Place) {z : Option Place} (o o₁ t t₁ : List ℕ) (ss ts us : List Bytes) → z ≡ None → StrsAnswer z p ss o o₁ t t₁ → ss ++ ts ≡ us → Fit p (length us) (length (joined us)) o t → ⊥
 strs_over p o o₁ t t₁ ss ts us d h e f = put_full p _ _ _ o o₁ t t₁ d h (strs_front ss ts us e f)

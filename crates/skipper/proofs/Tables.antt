@@ -1,4 +1,5 @@
 -- The rules of a table whose loops are read, and what the marks say in the end. Assumes nothing.
+use Rattle.std.specs.Prelude.{⊤, Result, Ok, Err}
 use mathlib.Core.Path.{◌≡◌, refl, sym, ap, ap₂, ◌∙◌}
 use mathlib.Core.Bool.{false≢true, Bool, true, false, ◌&&◌, ◌||◌, cond}
 use mathlib.Core.List.{List, [], ◌∷◌}
@@ -9,6 +10,8 @@ use native.Mathlib.Omega.{arith}
 use borrow.Author.Tests.{eq-eqb, ne_eqb}
 use lib.ListN.{length, get_or, get_elem?}
 use Rattle.grammar.specs.Numbers.{rule_width, type_word, rows_word, row_width, mark_width}
+use Rattle.grammar.specs.declared.Refusal.{Refusal}
+use Rattle.grammar.specs.declared.Refusal.TheVariants.{Cycle}
 use Rattle.grammar.specs.Basic.{Bytes, any, same_bytes}
 use Rattle.grammar.specs.Tree.{E, lit, fixed, skip, un, bin, size, any_node}
 use Rattle.grammar.specs.Rows.{Span}
@@ -31,7 +34,7 @@ use Rattle.skipper.specs.Lists.{ReadAll}
 use Rattle.skipper.proofs.Memories.{Below, marks_below, marks_grow, grows_none, grows_more, name_none}
 use Rattle.skipper.proofs.Rules.{steady_none, steady_more}
 use Rattle.skipper.proofs.Leaf.{length_table, count, rule_there, rule_stands}
-use Rattle.skipper.proofs.Settles.{idle_grows, loops_none, open_mono}
+use Rattle.skipper.proofs.Settles.{ok_not_err, idle_grows, loops_none, open_mono}
 use Rattle.skipper.proofs.Rotation.{rotated_rules, meets_is}
 use Rattle.skipper.proofs.Ways.{lists_same}
 
@@ -93,10 +96,10 @@ module _ {rules rows : List ℕ} {t : Table Span} (lent : Lent rules rows t) (k 
   rule_tree b e = rule_stands lent k (record { rule = r; is = h }) b e
 
   module _ (s : Bytes) where
-    pub atomic_no : {m : List ℕ} {v : ℕ} → (get_or rules (k * rule_width + type_word) 0 ≡ 2 → ⊥) → (v ≡ 1 → ⊥) → LoopsOf s t m m v (λ look. rule_open look (resolve_rule s r))
-    atomic_no n z = rw (ne_eqb r.type 2 (λ e. n (rule_type ∙ e))) (loops_none z)
+    pub atomic_no : {m : List ℕ} → (get_or rules (k * rule_width + type_word) 0 ≡ 2 → ⊥) → LoopsOf s t m m (Ok (record {})) (λ look. rule_open look (resolve_rule s r))
+    atomic_no n = rw (ne_eqb r.type 2 (λ e. n (rule_type ∙ e))) loops_none
 
-    pub atomic_yes : {m m' : List ℕ} {v : ℕ} → get_or rules (k * rule_width + type_word) 0 ≡ 2 → LoopsOf s t m m' v (λ look. any_node (open_at look) (resolve s r.body)) → LoopsOf s t m m' v (λ look. rule_open look (resolve_rule s r))
+    pub atomic_yes : {m m' : List ℕ} {v : Result ⊤ Refusal} → get_or rules (k * rule_width + type_word) 0 ≡ 2 → LoopsOf s t m m' v (λ look. any_node (open_at look) (resolve s r.body)) → LoopsOf s t m m' v (λ look. rule_open look (resolve_rule s r))
     atomic_yes e l = rw (eq-eqb r.type 2 (sym rule_type ∙ e)) l
 
 module _ {rules rows : List ℕ} {text : Bytes} {m : List ℕ} (g : Given rules rows text m) {k end n : ℕ} (b : k < length rules / rule_width) (e : end ≡ get_or m (k * mark_width + end_word) 0) (f : n ≡ get_or rules (k * rule_width + rows_word) 0) where
@@ -126,13 +129,14 @@ pub rules_begin : {rules rows : List ℕ} {text : Bytes} {m : List ℕ} → Rule
 rules_begin {m = m} = record { high = omega arith; steady = steady_none m; long = refl; settled = λ t l k id. record { known = k; grows = grows_none; no = λ j r h. absurd (omega arith) } }
 
 module _ {rules rows : List ℕ} {text : Bytes} {m m₁ : List ℕ} {k : ℕ} (inv : RulesRead rules rows text m m₁ k) where
-  module _ (lt : k < length rules / rule_width) {m₂ : List ℕ} {v : ℕ} (h : (t : Table Span) (r : Rule Span) → Lent rules rows t → get_elem? t k ≡ some r → LoopsOf text t m₁ m₂ v (λ look. rule_open look (resolve_rule text r))) where
-    pub rules_met : (t : Table Span) → Lent rules rows t → v ≡ 1 → LoopsOf text t m m₂ v (λ look. any (rule_open look) (resolve_table text t))
-    rules_met t l e =
+  module _ (lt : k < length rules / rule_width) {m₂ : List ℕ} {v : Result ⊤ Refusal} (h : (t : Table Span) (r : Rule Span) → Lent rules rows t → get_elem? t k ≡ some r → LoopsOf text t m₁ m₂ v (λ look. rule_open look (resolve_rule text r))) where
+    pub rules_met : {d : Refusal} → v ≡ Err d → (t : Table Span) → Lent rules rows t → LoopsOf text t m m₂ (Err d) (λ look. any (rule_open look) (resolve_table text t))
+    rules_met e t l =
         let r = rule_there t l.heads k lt in
         record {
-          met = λ kn id z. let x = inv.settled t l kn id in rules_yes (rule_open (name_list (resolve_table text t) [])) text t k r.rule r.is ((h t r.rule l r.is).met x.known (idle_grows id x.grows) e);
-          settled = λ kn id n. absurd (n e);
+          cycle = λ z c. (h t r.rule l r.is).cycle z (e ∙ c);
+          met = λ kn id z. let x = inv.settled t l kn id in rules_yes (rule_open (name_list (resolve_table text t) [])) text t k r.rule r.is ((h t r.rule l r.is).met x.known (idle_grows id x.grows) (e ∙ z));
+          settled = λ kn id n. absurd (ok_not_err (sym n));
         }
 
     more_settled : {st : Marks} (t : Table Span) (r : There t k) → RulesSettled text t st (marks_of (resolve_table text t) m₁) k → Settled (resolve_table text t) (marks_of (resolve_table text t) m₁) (marks_of (resolve_table text t) m₂) (λ look. rule_open look (resolve_rule text r.rule)) → RulesSettled text t st (marks_of (resolve_table text t) m₂) (k + 1)
@@ -142,7 +146,7 @@ module _ {rules rows : List ℕ} {text : Bytes} {m m₁ : List ℕ} {k : ℕ} (i
         go j q l e (yes c) = let z : j ≡ k = omega arith in let u : r.rule ≡ q = some_eq r.rule q (sym r.is ∙ ap (get_elem? t) (sym z) ∙ e) in rw (← u) y.no
         go j q l e (no c) = rule_mono (by_marks (marks_of (resolve_table text t) m₁)) (by_marks (marks_of (resolve_table text t) m₂)) (marks_grow y.grows) (resolve_rule text q) (x.no j q (omega arith) e)
 
-    pub rules_next : Steady m₁ m₂ → length m₂ ≡ length m₁ → (v ≡ 1 → ⊥) → RulesRead rules rows text m m₂ (k + 1)
+    pub rules_next : Steady m₁ m₂ → length m₂ ≡ length m₁ → v ≡ Ok (record {}) → RulesRead rules rows text m m₂ (k + 1)
     rules_next s g n =
         record {
           high = omega arith;
@@ -152,10 +156,11 @@ module _ {rules rows : List ℕ} {text : Bytes} {m m₁ : List ℕ} {k : ℕ} (i
               more_settled t r x ((h t r.rule l r.is).settled x.known (idle_grows id x.grows) n);
         }
 
-  pub rules_end : {v : ℕ} → length rules / rule_width ≤ k → (v ≡ 1 → ⊥) → (t : Table Span) → Lent rules rows t → LoopsOf text t m m₁ v (λ look. any (rule_open look) (resolve_table text t))
-  rules_end le n t l =
+  pub rules_end : length rules / rule_width ≤ k → (t : Table Span) → Lent rules rows t → LoopsOf text t m m₁ (Ok (record {})) (λ look. any (rule_open look) (resolve_table text t))
+  rules_end le t l =
       record {
-        met = λ kn id z. absurd (n z);
+        cycle = λ z c. absurd (ok_not_err c);
+        met = λ kn id z. absurd (ok_not_err z);
         settled = λ kn id z. let x = inv.settled t l kn id in record { known = x.known; grows = x.grows; no = rules_no (rule_open (by_marks (marks_of (resolve_table text t) m₁))) text t (λ j r e. x.no j r (omega (arith, inside_table t j r e, count t l.heads)) e) };
       }
 
@@ -195,6 +200,10 @@ module _ {rules rows : List ℕ} {text : Bytes} {m : List ℕ} (g : Given rules 
         ended = record { end = λ i h. marked_other (λ _. 0) 1 n m (i * mark_width + end_word) (λ j l e. omega arith) ∙ g.ended.end i h };
       }
 
+  -- the marks as `forget` leaves them
+  pub forgotten : {m' : List ℕ} → m' ≡ cleared n m → Given rules rows text m'
+  forgotten e = rw e cleared_given
+
   module _ (t : Table Span) (l : Lent rules rows t) where
     pub cleared_idle : Idle (marks_of (resolve_table text t) (cleared n m))
     unfolding marks_of
@@ -213,12 +222,12 @@ module _ {rules rows : List ℕ} {text : Bytes} {m : List ℕ} (g : Given rules 
         go y o (some k) q h = absurd (omega (arith, marked_at (λ _. 0) 1 n m k (omega arith) g.index.long (omega (arith, index_below 0 k (resolve_table text t) y q, length_table text t, count t l.heads))))
 
     -- WHAT THE READING OF A TABLE SAYS
-    module _ {m' : List ℕ} {v : ℕ} (h : LoopsOf text t (cleared n m) m' v (λ look. any (rule_open look) (resolve_table text t))) where
-      pub all_met : v ≡ 1 → meets (resolve_table text t) ≡ true
-      all_met e = meets_is (resolve_table text t) ∙ h.met cleared_known cleared_idle e
+    module _ {m' : List ℕ} {v : Result ⊤ Refusal} (h : LoopsOf text t (cleared n m) m' v (λ look. any (rule_open look) (resolve_table text t))) where
+      pub all_met : {d : Refusal} → v ≡ Err d → (d ≡ Cycle) × (meets (resolve_table text t) ≡ true)
+      all_met {d} e = let c = h.cycle d e in (c, meets_is (resolve_table text t) ∙ h.met cleared_known cleared_idle (e ∙ ap Err c))
 
       -- the lists of rules are then told in other memories
-      pub all_read : {m'' : List ℕ} → (v ≡ 1 → ⊥) → Relisted m' m'' → Targets (resolve_table text t) m'' → ReadAll (resolve_table text t) m''
+      pub all_read : {m'' : List ℕ} → v ≡ Ok (record {}) → Relisted m' m'' → Targets (resolve_table text t) m'' → ReadAll (resolve_table text t) m''
       all_read {m''} e r g =
           let x = h.settled cleared_known cleared_idle e in
           let st = marks_of (resolve_table text t) m' in

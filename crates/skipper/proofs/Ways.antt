@@ -1,4 +1,5 @@
 -- Ways through rules that only name each other: whose expression gives a rule's strings, and how memories tell it. Assumes nothing.
+use Rattle.std.specs.Prelude.{None, Option as Option', Some, unwrap_or}
 use mathlib.Core.Path.{◌≡◌, refl, sym, ap, ◌∙◌, subst, fun_ext}
 use mathlib.Core.Bool.{false≢true, Bool, true, false, cond}
 use mathlib.Core.List.{List, [], ◌∷◌}
@@ -22,11 +23,12 @@ use Rattle.grammar.proofs.Logic.{none_some, some_eq}
 use Rattle.rows.proofs.Laws.{Found}
 use Rattle.rows.proofs.Cells.{lit_shape}
 use Rattle.rows.proofs.Views.{as_lit, lit_is}
-use Rattle.names.specs.Names.{name_of, Ended, First, IsName, memory_word, end_word}
+use Rattle.rows.specs.Rows.{x_at, y_at}
+use Rattle.names.specs.Names.{name_of, Ended, First, Finds, IsName, memory_word, end_word}
 use Rattle.skipper.specs.Memory.{mark_of, name_list, Known}
-use Rattle.skipper.specs.Lends.{index_from, state_at, marks_of, capped, lists_of, Lent}
-use Rattle.skipper.specs.Ways.{Spells, Gives, told_by, told_at, TargetsOf, Targets, Leading, Relisted}
-use Rattle.skipper.specs.Skips.{BodyAt}
+use Rattle.skipper.specs.Lends.{index_from, state_at, marks_of, capped, lists_of, Lent, Given}
+use Rattle.skipper.specs.Ways.{Spells, Gives, told_by, told_at, TargetsOf, Targets, Leading, Relisted, Led}
+use Rattle.skipper.specs.Skips.{literal_at, BodyAt}
 use Rattle.skipper.proofs.Rules.{steady_none, steady_more, steady_set}
 use Rattle.skipper.proofs.Leaf.{length_table, count, rule_there, rule_before, name_found, name_missing}
 use Rattle.skipper.proofs.Spelling.{never, name_fuel, name_known, name_spells}
@@ -108,6 +110,10 @@ rule_within (q ∷ t) (suc i) r h = let l : i < length t = rule_within t i r h i
 pub gives_within : {t : Table Bytes} {i k : ℕ} → Gives t i k → k < length t
 gives_within {t} {i} {k} g = rule_within t k g.rule g.is
 
+-- so its number is small
+pub gives_small : {rules rows : List ℕ} {text : Bytes} {m : List ℕ} (g : Given rules rows text m) {i k : ℕ} → Gives (resolve_table text g.table) i k → k < 65536
+gives_small {text = text} g h = omega (arith, g.index.indexed.few, gives_within h, length_table text g.table, count g.table g.lent.heads)
+
 -- ---- memories
 
 pub told_list : (w i : ℕ) → 3 ≤ w → told_by w i ≡ w - 3
@@ -153,12 +159,17 @@ module _ {rules rows : List ℕ} {t : Table Span} (l : Lent rules rows t) (s : B
   pub rule_itself : Gives (resolve_table s t) i i
   rule_itself = let r = rule_there t l.heads i b in gives_self (resolve_rule s r.rule) (rule_resolved s t i r.rule r.is)
 
-  pub rule_next : {m : List ℕ} {k x y n j end : ℕ} → Ended rules m → end ≡ get_or m (i * mark_width + end_word) 0 → Found rows (end - 1) k x y n → k ≡ 3 → First (length rules / rule_width) rules s (bytes_at s (x, y)) j → Gives (resolve_table s t) i j
+  rule_next : {m : List ℕ} {k x y n j end : ℕ} → Ended rules m → end ≡ get_or m (i * mark_width + end_word) 0 → Found rows (end - 1) k x y n → k ≡ 3 → First (length rules / rule_width) rules s (bytes_at s (x, y)) j → Gives (resolve_table s t) i j
   rule_next {m} {x = x} {y = y} {j = j} {end = end} d e f z g =
       let r = rule_there t l.heads i b in
       let q = rule_there t l.heads j g.below in
       let v = as_lit f (rule_before l i r b d end e) (rw z (lit_shape Ident)) in
       gives_named (resolve_rule s r.rule) (resolve_rule s q.rule) (bytes_at s (x, y)) (rule_resolved s t i r.rule r.is) (ap (resolve s) (lit_is Ident v z)) (rule_resolved s t j q.rule q.is) (name_found t l.heads s m (bytes_at s (x, y)) g q)
+
+  -- the rule that it names, if it is one
+  pub rule_or : {m : List ℕ} {k x y n end : ℕ} → Ended rules m → end ≡ get_or m (i * mark_width + end_word) 0 → Found rows (end - 1) k x y n → k ≡ 3 → (o : Option' ℕ) → Finds (length rules / rule_width) rules s (bytes_at s (x, y)) o → Gives (resolve_table s t) i (unwrap_or o i)
+  rule_or d e f z None g = rule_itself
+  rule_or d e f z (Some j) g = rule_next d e f z g
 
 -- a memory that tells no rule
 pub targets_kept : {m : List ℕ} {i : ℕ} {t : Table Bytes} → get_or m (i * mark_width + memory_word) 0 < 3 → Gives t i i → TargetsOf i t m → TargetsOf (i + 1) t m
@@ -197,7 +208,7 @@ module _ {rules w : List ℕ} {t : Table Span} (l : Lent rules w t) (u : Bytes) 
   told_gives : Gives (resolve_table u t) i k
   told_gives = rw e (h.to i (omega (arith, f.below, length_table u t, count t l.heads)))
 
-  pub told_below : k < length rules / rule_width
+  told_below : k < length rules / rule_width
   told_below = omega (arith, gives_within told_gives, length_table u t, count t l.heads)
 
   pub told_body : {end : ℕ} → Ended rules m → end ≡ get_or m (k * mark_width + end_word) 0 → BodyAt (end - 1) w u t x
@@ -210,6 +221,13 @@ module _ {rules w : List ℕ} {t : Table Span} (l : Lent rules w t) (u : Bytes) 
         at = rule_before l k r told_below d end c;
         gives = λ n ss s. subst (λ (v : Rule Bytes). Spells (resolve_table u t) (n - 1) (λ look. read_in look v.body) ss) z (told_gives.same (resolve_rule u q.rule) (n - 1) ss (rule_resolved u t i q.rule q.is) (name_spells x n (resolve u q.rule.body) (name_found t l.heads u m x f q) s));
       }
+
+-- the name at a row whose x and y were read
+pub name_at : {n : ℕ} {rules : List ℕ} {u : Bytes} (w : List ℕ) (s : Bytes) (root : ℕ) {x y i : ℕ} → x ≡ x_at w root → y ≡ y_at w root → First n rules u (bytes_at s (x, y)) i → First n rules u (literal_at w s root) i
+name_at w s root e f h = rw (e, f) at h
+
+pub told_within : {rules rows : List ℕ} {u : Bytes} {m : List ℕ} (d : Led rules rows u m) {x : Bytes} {i k : ℕ} → First (length rules / rule_width) rules u x i → k ≡ told_at m i → k < length rules / rule_width
+told_within {u = u} d f e = told_below d.given.lent u (d.targets d.given.table d.given.lent) _ f e
 
 -- a name that gives strings is a rule's
 record Has (n : ℕ) (rules : List ℕ) (u x : Bytes) : Type 0 where

@@ -1,5 +1,5 @@
 -- A table that is lent as words, with a mark of four words for each rule. Word 1 of a mark is the rule's memory. Assumes nothing.
-use Rattle.std.specs.Prelude.{◌≡◌, cond, List, [], ◌∷◌, ℕ, suc, ◌+◌, ◌*◌, ◌≤◌, length, get_or, eqb, leb}
+use Rattle.std.specs.Prelude.{◌≡◌, cond, ⊤, List, [], ◌∷◌, ℕ, suc, ◌+◌, ◌*◌, ◌≤◌, length, get_or, eqb, leb, Result, Ok, Err}
 use Rattle.std.proofs.Math.Option.{Option, none, some}
 use Rattle.grammar.specs.Numbers.{mark_width}
 use Rattle.grammar.specs.Basic.{Bytes, same_bytes}
@@ -8,6 +8,8 @@ use Rattle.grammar.specs.Table.{Table, rule_words, row_words, resolve_table}
 use Rattle.grammar.specs.Lists.{Reading}
 use Rattle.rows.specs.Rows.{Inside}
 use Rattle.names.specs.Names.{AllIndexed, Ended, memory_word, ways_word, end_word}
+use Rattle.skipper.specs.declared.Unlisted.{Unlisted}
+use Rattle.skipper.specs.declared.Unlisted.TheVariants.{Again, Absent}
 use Rattle.skipper.specs.Memory.{Marks, Known, Reads}
 
 -- the number of the rule with that name, where the first is numbered i
@@ -59,10 +61,11 @@ pub record Steady (m m' : List ℕ) : Type 0 where
   pub ways : (i : ℕ) → get_or m' (i * mark_width + ways_word) 0 ≡ get_or m (i * mark_width + ways_word) 0
   pub end : (i : ℕ) → get_or m' (i * mark_width + end_word) 0 ≡ get_or m (i * mark_width + end_word) 0
 
--- the same of a reading that answers a
-pub record Ran (m m' : List ℕ) (a : ℕ) : Type 0 where
-  pub steady : Steady m m'
-  pub least : 1 ≤ a
+-- the memory that a reading leaves: of a list, or of why there is none
+abbrev pub memory_of : Result ⊤ Unlisted → ℕ
+memory_of (Ok v) = 3
+memory_of (Err Again) = 1
+memory_of (Err Absent) = 2
 
 -- a is the mark of the reading f, of the table t with the text s, which changed the marks m to m'
 pub record ReadsOf (s : Bytes) (t : Table Span) (m m' : List ℕ) (a : ℕ) (f : (Bytes → Reading) → Reading) : Type 0 where

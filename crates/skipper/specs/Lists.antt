@@ -1,6 +1,8 @@
 -- What reading the lists of a whole table comes to: refusal 7, or marks that settle every loop of the rotated table. Assumes nothing.
-use Rattle.std.specs.Prelude.{◌≡◌, Bool, true, false, ◌&&◌, List, ℕ}
+use Rattle.std.specs.Prelude.{◌≡◌, Bool, true, false, ◌&&◌, ⊤, List, ℕ, Result, Ok, Err}
 use Rattle.std.proofs.Math.Option.{Option, none, some}
+use Rattle.grammar.specs.declared.Refusal.{Refusal}
+use Rattle.grammar.specs.declared.Refusal.TheVariants.{Cycle}
 use Rattle.grammar.specs.Basic.{Bytes, any}
 use Rattle.grammar.specs.Tree.{E, any_node}
 use Rattle.grammar.specs.Table.{Table}
@@ -10,8 +12,6 @@ use Rattle.grammar.specs.Refusals.{meets}
 use Rattle.skipper.specs.Memory.{Known, by_marks}
 use Rattle.skipper.specs.Lends.{lists_of}
 use Rattle.skipper.specs.Ways.{Targets}
-use Rattle.skipper.specs.declared.Readings.{Readings}
-use Rattle.skipper.specs.declared.Readings.TheVariants.{Read, Again}
 
 -- a loop of a rotated tree whose list is not read to its end by `look`
 abbrev pub unread_in : (Bytes → Reading) → Option E → Bool
@@ -32,6 +32,6 @@ pub record ReadAll (t : Table Bytes) (m : List ℕ) : Type 0 where
   pub never : meets t ≡ false
   pub lists : Lists t m
 
-abbrev pub ListsAnswer : Readings → Table Bytes → List ℕ → Type 0
-ListsAnswer Read t m = ReadAll t m
-ListsAnswer Again t m = meets t ≡ true
+abbrev pub ListsAnswer : Result ⊤ Refusal → Table Bytes → List ℕ → Type 0
+ListsAnswer (Ok v) t m = ReadAll t m
+ListsAnswer (Err r) t m = (r ≡ Cycle) × (meets t ≡ true)

@@ -1,6 +1,8 @@
 -- Loops (!e ~ ANY)* of a table, and what reading their lists comes to. Assumes nothing.
-use Rattle.std.specs.Prelude.{◌≡◌, Bool, true, false, ◌&&◌, List, [], ℕ, ◌+◌, ◌-◌}
+use Rattle.std.specs.Prelude.{◌≡◌, Bool, true, false, ◌&&◌, List, [], ℕ, ◌+◌, ◌-◌, ⊤, None, Option as Option', Some, Result, Ok, Err}
 use Rattle.std.proofs.Math.Option.{Option, none, some}
+use Rattle.grammar.specs.declared.Refusal.{Refusal}
+use Rattle.grammar.specs.declared.Refusal.TheVariants.{Cycle}
 use Rattle.grammar.specs.Basic.{Bytes}
 use Rattle.grammar.specs.Tree.{Expr, E, size, any_node}
 use Rattle.grammar.specs.Rows.{Span}
@@ -11,8 +13,6 @@ use Rattle.grammar.specs.Steps.{is_atomic, rotate}
 use Rattle.rows.specs.Rows.{At}
 use Rattle.skipper.specs.Memory.{Marks, Known, Grows, name_list, by_marks}
 use Rattle.skipper.specs.Lends.{marks_of}
-use Rattle.skipper.specs.declared.Loop.{Loop}
-use Rattle.skipper.specs.declared.Loop.TheVariants.{Over, Nothing}
 
 -- the expression x is what stands at row i
 pub record OverAt (i : ℕ) (w : List ℕ) (s : Bytes) (x : Option E) : Type 0 where
@@ -20,9 +20,9 @@ pub record OverAt (i : ℕ) (w : List ℕ) (s : Bytes) (x : Option E) : Type 0 w
   pub at : At w i tree
   pub is : x ≡ some (resolve s tree)
 
-abbrev pub LoopAnswer : Loop → List ℕ → Bytes → Option E → Type 0
-LoopAnswer (Over i) w s x = OverAt i w s x
-LoopAnswer Nothing w s x = x ≡ none
+abbrev pub LoopAnswer : Option' ℕ → List ℕ → Bytes → Option E → Type 0
+LoopAnswer (Some i) w s x = OverAt i w s x
+LoopAnswer None w s x = x ≡ none
 
 -- the rows from `from` to `end` are one tree
 pub record TreeRows (w : List ℕ) (from end : ℕ) : Type 0 where
@@ -53,8 +53,9 @@ pub record Settled (t : Table Bytes) (st st' : Marks) (p : (Bytes → Reading) �
   pub grows : Grows st st'
   pub no : p (by_marks st') ≡ false
 
--- the answer of a reading of loops, of the table t with the text s, which changed the marks m to m': 1 exactly when one of them comes to an
--- open rule, which p says
-pub record LoopsOf (s : Bytes) (t : Table Span) (m m' : List ℕ) (a : ℕ) (p : (Bytes → Reading) → Bool) : Type 0 where
-  pub met : Known (resolve_table s t) (marks_of (resolve_table s t) m) → Idle (marks_of (resolve_table s t) m) → a ≡ 1 → p (name_list (resolve_table s t) []) ≡ true
-  pub settled : Known (resolve_table s t) (marks_of (resolve_table s t) m) → Idle (marks_of (resolve_table s t) m) → (a ≡ 1 → ⊥) → Settled (resolve_table s t) (marks_of (resolve_table s t) m) (marks_of (resolve_table s t) m') p
+-- the answer of a reading of loops, of the table t with the text s, which changed the marks m to m': refusal 7 exactly when one of them
+-- comes to an open rule, which p says
+pub record LoopsOf (s : Bytes) (t : Table Span) (m m' : List ℕ) (a : Result ⊤ Refusal) (p : (Bytes → Reading) → Bool) : Type 0 where
+  pub cycle : (r : Refusal) → a ≡ Err r → r ≡ Cycle
+  pub met : Known (resolve_table s t) (marks_of (resolve_table s t) m) → Idle (marks_of (resolve_table s t) m) → a ≡ Err Cycle → p (name_list (resolve_table s t) []) ≡ true
+  pub settled : Known (resolve_table s t) (marks_of (resolve_table s t) m) → Idle (marks_of (resolve_table s t) m) → a ≡ Ok (record {}) → Settled (resolve_table s t) (marks_of (resolve_table s t) m) (marks_of (resolve_table s t) m') p

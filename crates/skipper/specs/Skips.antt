@@ -1,5 +1,5 @@
 -- Step 2 with marks at hand: which loops have a list, and what is written of it. Assumes nothing.
-use Rattle.std.specs.Prelude.{◌≡◌, Bool, true, false, List, ℕ, ◌+◌, ◌-◌, ◌/◌, ◌^◌, ◌≤◌, ◌<◌, length}
+use Rattle.std.specs.Prelude.{◌≡◌, Bool, true, false, List, ℕ, ◌+◌, ◌-◌, ◌/◌, ◌^◌, ◌≤◌, ◌<◌, length, None, Option, Some}
 use Rattle.std.proofs.Math.Option.{some}
 use Rattle.grammar.specs.Numbers.{row_width}
 use Rattle.grammar.specs.Basic.{Bytes}
@@ -13,15 +13,12 @@ use Rattle.rows.specs.declared.Shape.{Shape}
 use Rattle.rows.specs.declared.Shape.TheVariants.{Lit, Num, One, Two, Skips}
 use Rattle.rows.specs.Rows.{At, shape_of, kind_at, x_at, y_at}
 use Rattle.writing.specs.declared.Place.{Place}
-use Rattle.writing.specs.declared.Wrote.{Wrote}
 use Rattle.writing.specs.Writes.{Written, RowAnswer, Answer}
 use Rattle.chains.specs.Runs.{wrap}
 use Rattle.skipper.specs.Memory.{Known, by_marks}
 use Rattle.skipper.specs.Lends.{lists_of, Lent}
 use Rattle.skipper.specs.Ways.{Spells, Targets, Led}
 use Rattle.skipper.specs.Lists.{unread_at}
-use Rattle.skipper.specs.declared.Loop.{Loop}
-use Rattle.skipper.specs.declared.Loop.TheVariants.{Over, Nothing}
 use Rattle.skipper.specs.declared.Fallen.{Fallen}
 use Rattle.skipper.specs.declared.Fallen.TheVariants.{Plain, Looped, Forked}
 use Rattle.skipper.specs.declared.Node as node
@@ -52,9 +49,9 @@ pub record ListAt (i : ℕ) (w : List ℕ) (s : Bytes) (look : Bytes → Reading
   pub is : loop_over e ≡ some (resolve s tree)
   pub list : is_list (read_in look (resolve s tree)) ≡ true
 
-abbrev pub ListAnswer : Loop → List ℕ → Bytes → (Bytes → Reading) → E → Type 0
-ListAnswer (Over i) w s look e = ListAt i w s look e
-ListAnswer Nothing w s look e = (x : E) → loop_over e ≡ some x → is_list (read_in look x) ≡ false
+abbrev pub ListAnswer : Option ℕ → List ℕ → Bytes → (Bytes → Reading) → E → Type 0
+ListAnswer (Some i) w s look e = ListAt i w s look e
+ListAnswer None w s look e = (x : E) → loop_over e ≡ some x → is_list (read_in look x) ≡ false
 
 -- some expression stands at row i of the words w with the text s, and `read` gives a list of it; names are those of a lent table with the text u
 pub record Spelled (rules rows : List ℕ) (u : Bytes) (w : List ℕ) (s : Bytes) (i n : ℕ) (read : (Bytes → Reading) → E → Reading) : Type 0 where
@@ -138,9 +135,9 @@ pub record Rising (w : List ℕ) (base root : ℕ) (p q : Place) (o : List ℕ) 
   pub words : length o < 2 ^ 32
 
 -- whatever tree stands from p to q, the nodes us stand over it where they fit, and the answer is full where they do not
-abbrev pub RisenAnswer : Wrote → (q p : Place) → List Un → (o₁ o₂ : List ℕ) → Type 0
+abbrev pub RisenAnswer : Option Place → (q p : Place) → List Un → (o₁ o₂ : List ℕ) → Type 0
 RisenAnswer a q p us o₁ o₂ = (e : E) (o t t₁ : List ℕ) → Written q p e o o₁ t t₁ → Answer a p (wrap us e) o o₂ t t₁
 
 -- the same of whatever tree e a row h over what stands from p to q makes
-abbrev pub CrownedAnswer : Wrote → (q p : Place) → Head → List Un → (o₁ o₂ : List ℕ) → Type 0
-CrownedAnswer a q p h us o₁ o₂ = (e : E) (o t t₁ : List ℕ) → ((b : Wrote) (o' : List ℕ) → RowAnswer b q h (q.rows - p.rows + 1) o₁ o' → Answer b p e o o' t t₁) → Answer a p (wrap us e) o o₂ t t₁
+abbrev pub CrownedAnswer : Option Place → (q p : Place) → Head → List Un → (o₁ o₂ : List ℕ) → Type 0
+CrownedAnswer a q p h us o₁ o₂ = (e : E) (o t t₁ : List ℕ) → ((b : Option Place) (o' : List ℕ) → RowAnswer b q h (q.rows - p.rows + 1) o₁ o' → Answer b p e o o' t t₁) → Answer a p (wrap us e) o o₂ t t₁

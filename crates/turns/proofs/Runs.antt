@@ -1,4 +1,5 @@
 -- The seven steps, one after the other, from a table that is lent. Assumes nothing.
+use Rattle.std.specs.Prelude.{None, Option, Some}
 use mathlib.Core.Path.{◌≡◌, refl, sym, ap, ◌∙◌, subst}
 use mathlib.Core.Bool.{Bool, true, false, ◌||◌}
 use mathlib.Core.List.{List, [], ◌∷◌}
@@ -15,8 +16,6 @@ use Rattle.grammar.proofs.TopDown.{each_names}
 use Rattle.names.specs.Names.{NamesInside, AllIndexed}
 use Rattle.names.proofs.Finding.{index_moved}
 use Rattle.writing.specs.declared.Place.{Place}
-use Rattle.writing.specs.declared.Wrote.{Wrote}
-use Rattle.writing.specs.declared.Wrote.TheVariants.{Done, Full}
 use Rattle.skipper.specs.Lends as skipper
 use Rattle.admission.specs.Ready.{Ready}
 use Rattle.passes.specs.Passes.{step_of, Lent, Holds, Front, Passing, PassAnswer}
@@ -24,14 +23,13 @@ use Rattle.passes.proofs.Tables.{rules_length, each_length, resolve_length}
 use Rattle.turns.specs.Chain.{Sized, Works, Stood, Stands, Turning, Turns, Paired, Restoring, SevenAnswer, rows_of, seven_of, after, rotated, skipped, unrolled, concatenated, factored, listed, restored, all_seven}
 use Rattle.turns.specs.declared.Two.{Two}
 use Rattle.turns.specs.declared.Seven.{Seven}
-use Rattle.turns.specs.declared.Seven.TheVariants as seven
 use Rattle.turns.proofs.Fronts.{front_is}
 use Rattle.turns.proofs.Sizes.{sized_room, pass_stood, stood_rows, count_after}
 use Rattle.turns.proofs.Asking.{asks_free, asks_two, asks_three, zeros_one, zeros_two}
 use Rattle.turns.proofs.Turns.{holds_part}
 
 -- the second of two turns
-pub second_turn : {step next : ℕ} {rs₀ ws₀ : List ℕ} {text₀ : Bytes} {marks : List ℕ} {n : ℕ} {a b : Wrote} {os o s os₂ o₂ s₂ os' o' s' : List ℕ} {large : Bool} (k : Turns step next rs₀ ws₀ text₀ marks n a os o s os₂ o₂ s₂) → Sized os' o' s' → Stood b large (after step (resolve_table text₀ k.first.given) k.first.stands.table) os' o' s' → Turning next rs₀ ws₀ text₀ marks n b os' o' s' os o s
+pub second_turn : {step next : ℕ} {rs₀ ws₀ : List ℕ} {text₀ : Bytes} {marks : List ℕ} {n : ℕ} {a b : Option Place} {os o s os₂ o₂ s₂ os' o' s' : List ℕ} {large : Bool} (k : Turns step next rs₀ ws₀ text₀ marks n a os o s os₂ o₂ s₂) → Sized os' o' s' → Stood b large (after step (resolve_table text₀ k.first.given) k.first.stands.table) os' o' s' → Turning next rs₀ ws₀ text₀ marks n b os' o' s' os o s
 second_turn {step} {text₀ = text₀} {n = n} k z f =
     let t : Table Bytes = k.first.stands.table in
     let look : Table Bytes = resolve_table text₀ k.first.given in
@@ -114,14 +112,14 @@ module _ {rules rows : List ℕ} {text : Bytes} {marks : List ℕ} (r : Ready ru
     pub first_rules : {os o s : List ℕ} → Sized os o s → length rules ≤ length os
     first_rules z = omega (arith, r.few, z.rules)
 
-    pub first_stood : (a : Wrote) {os o s os' o' s' : List ℕ} → Sized os o s → Sized os' o' s' → ((gs ts : Table Span) → Lent gs rules rows → Holds ts rules rows text → PassAnswer a (each (step_of 1 (resolve_table text gs)) (resolve_table text ts)) os o s os' o' s') → Stood a (too_large (rotated t0)) (rotated t0) os' o' s'
+    pub first_stood : (a : Option Place) {os o s os' o' s' : List ℕ} → Sized os o s → Sized os' o' s' → ((gs ts : Table Span) → Lent gs rules rows → Holds ts rules rows text → PassAnswer a (each (step_of 1 (resolve_table text gs)) (resolve_table text ts)) os o s os' o' s') → Stood a (too_large (rotated t0)) (rotated t0) os' o' s'
     first_stood a z z' h = pass_stood a (rotated t0) refl z z' (omega (arith, ready_few, each_length (step_of 1 t0) t0)) (h t t l ready_holds)
 
     -- steps 2 and 3, 4 and 5, 6
-    abbrev stands : {a : Wrote} {large : Bool} (u : Table Bytes) {os o s os₂ o₂ s₂ : List ℕ} → length rules ≡ length u * rule_width → Works os o s os₂ o₂ s₂ → Stood a large u os o s → Stands (length rules) a os o s os₂ o₂ s₂
+    abbrev stands : {a : Option Place} {large : Bool} (u : Table Bytes) {os o s os₂ o₂ s₂ : List ℕ} → length rules ≡ length u * rule_width → Works os o s os₂ o₂ s₂ → Stood a large u os o s → Stands (length rules) a os o s os₂ o₂ s₂
     stands u e z f = record { table = u; large = _; stood = f; count = e; works = z }
 
-    pub skip_turns : {a : Wrote} {large : Bool} {os o s os₂ o₂ s₂ : List ℕ} → Works os o s os₂ o₂ s₂ → Stood a large (rotated t0) os o s → Turns 2 3 rules rows text marks (length rules) a os o s os₂ o₂ s₂
+    pub skip_turns : {a : Option Place} {large : Bool} {os o s os₂ o₂ s₂ : List ℕ} → Works os o s os₂ o₂ s₂ → Stood a large (rotated t0) os o s → Turns 2 3 rules rows text marks (length rules) a os o s os₂ o₂ s₂
     skip_turns z f =
         let t2 : Table Bytes = skipped t0 in
         record {
@@ -129,10 +127,10 @@ module _ {rules rows : List ℕ} {text : Bytes} {marks : List ℕ} (r : Ready ru
           asks₂ = asks_three rules rows text marks (words_of t2).rows (table_text t2) t2 (zeros_two t0 (rotated t0) (zeros_one t0 t0 (r.zeros t ready_given)));
         }
 
-    abbrev free_turning : {step : ℕ} {a : Wrote} {large : Bool} (u : Table Bytes) {os o s os₂ o₂ s₂ : List ℕ} → (step ≡ 2 → ⊥) → (step ≡ 3 → ⊥) → (step ≡ 7 → ⊥) → length rules ≡ length u * rule_width → Works os o s os₂ o₂ s₂ → Stood a large u os o s → Turning step rules rows text marks (length rules) a os o s os₂ o₂ s₂
+    abbrev free_turning : {step : ℕ} {a : Option Place} {large : Bool} (u : Table Bytes) {os o s os₂ o₂ s₂ : List ℕ} → (step ≡ 2 → ⊥) → (step ≡ 3 → ⊥) → (step ≡ 7 → ⊥) → length rules ≡ length u * rule_width → Works os o s os₂ o₂ s₂ → Stood a large u os o s → Turning step rules rows text marks (length rules) a os o s os₂ o₂ s₂
     free_turning u x y v e z f = record { given = t; lent = l; stands = stands u e z f; asks = asks_free rules rows text marks (words_of u).rows (table_text u) x y v (packed_from 0 u) }
 
-    pub join_turns : {a : Wrote} {large : Bool} {os o s os₂ o₂ s₂ : List ℕ} → Works os o s os₂ o₂ s₂ → Stood a large (unrolled t0) os o s → Turns 4 5 rules rows text marks (length rules) a os o s os₂ o₂ s₂
+    pub join_turns : {a : Option Place} {large : Bool} {os o s os₂ o₂ s₂ : List ℕ} → Works os o s os₂ o₂ s₂ → Stood a large (unrolled t0) os o s → Turns 4 5 rules rows text marks (length rules) a os o s os₂ o₂ s₂
     join_turns z f =
         let t4 : Table Bytes = concatenated t0 in
         record {
@@ -140,11 +138,11 @@ module _ {rules rows : List ℕ} {text : Bytes} {marks : List ℕ} (r : Ready ru
           asks₂ = asks_free rules rows text marks (words_of t4).rows (table_text t4) (λ e. omega (arith, e)) (λ e. omega (arith, e)) (λ e. omega (arith, e)) (packed_from 0 t4);
         }
 
-    pub list_turning : {a : Wrote} {large : Bool} {os o s os₂ o₂ s₂ : List ℕ} → Works os o s os₂ o₂ s₂ → Stood a large (factored t0) os o s → Turning 6 rules rows text marks (length rules) a os o s os₂ o₂ s₂
+    pub list_turning : {a : Option Place} {large : Bool} {os o s os₂ o₂ s₂ : List ℕ} → Works os o s os₂ o₂ s₂ → Stood a large (factored t0) os o s → Turning 6 rules rows text marks (length rules) a os o s os₂ o₂ s₂
     list_turning z f = free_turning (factored t0) (λ e. omega (arith, e)) (λ e. omega (arith, e)) (λ e. omega (arith, e)) factored_count z f
 
     -- step 7: the marks index the names of every table, since no step changes a name
-    pub restoring : {a : Wrote} {large : Bool} {os o s os₂ o₂ s₂ : List ℕ} → Works os o s os₂ o₂ s₂ → Stood a large (listed t0) os o s → Restoring marks (length rules) a os o s os₂ o₂ s₂
+    pub restoring : {a : Option Place} {large : Bool} {os o s os₂ o₂ s₂ : List ℕ} → Works os o s os₂ o₂ s₂ → Stood a large (listed t0) os o s → Restoring marks (length rules) a os o s os₂ o₂ s₂
     restoring z f = record { stands = stands (listed t0) listed_count z f; index = λ q e. moved t (listed t0) listed_count (f.front q e) l.rules (listed_names t0) r.given.index }
 
 -- all seven
@@ -162,7 +160,7 @@ first_of : (a b : Bool) → (a || b) ≡ false → a ≡ false
 first_of true b h = h
 first_of false b h = refl
 
-pub seven_of_lem : {i j k l m n i' j' k' l' m' n' : ℕ} {w : Wrote} {y : Place} → i ≡ i' → j ≡ j' → k ≡ k' → l ≡ l' → m ≡ m' → n ≡ n' → w ≡ Done y → seven.Done i j k l m n y ≡ seven_of i' j' k' l' m' n' w
+pub seven_of_lem : {i j k l m n i' j' k' l' m' n' : ℕ} {w : Option Place} {y : Place} → i ≡ i' → j ≡ j' → k ≡ k' → l ≡ l' → m ≡ m' → n ≡ n' → w ≡ Some y → Some (record { rotated = i; skipped = j; unrolled = k; concatenated = l; factored = m; listed = n; place = y }) ≡ seven_of i' j' k' l' m' n' w
 seven_of_lem a b c d e f g = rw (a, b, c, d, e, f, g) refl
 
 -- whether one of the tables up to a step is too large
@@ -176,14 +174,14 @@ module _ (t : Table Bytes) where
   abbrev pub large6 : Bool
   large6 = large5 || too_large (listed t)
 
-  pub seven_answer : {x : Seven} (p : Wrote) {q r : Two} (v w : Wrote) {os₁ o₁ s₁ os₃ o₃ s₃ os₅ o₅ s₅ os₆ o₆ s₆ os o s : List ℕ} → x ≡ seven_of (rows_of p) (rows_of q.first) (rows_of q.last) (rows_of r.first) (rows_of r.last) (rows_of v) w → Stood p (too_large (rotated t)) (rotated t) os₁ o₁ s₁ → Paired q (too_large (rotated t)) (skipped t) (unrolled t) os₃ o₃ s₃ → Paired r large3 (concatenated t) (factored t) os₅ o₅ s₅ → Stood v large6 (listed t) os₆ o₆ s₆ → Stood w (large6 || too_large (restored t)) (restored t) os o s → SevenAnswer x (all_seven t) os o s
-  seven_answer p {q} {r} v w {os = os} {o = o} {s = s} e a b c d f = subst (λ (y : Seven). SevenAnswer y (all_seven t) os o s) (sym e) (go w f)
+  pub seven_answer : {x : Option Seven} (p : Option Place) {q r : Two} (v w : Option Place) {os₁ o₁ s₁ os₃ o₃ s₃ os₅ o₅ s₅ os₆ o₆ s₆ os o s : List ℕ} → x ≡ seven_of (rows_of p) (rows_of q.first) (rows_of q.last) (rows_of r.first) (rows_of r.last) (rows_of v) w → Stood p (too_large (rotated t)) (rotated t) os₁ o₁ s₁ → Paired q (too_large (rotated t)) (skipped t) (unrolled t) os₃ o₃ s₃ → Paired r large3 (concatenated t) (factored t) os₅ o₅ s₅ → Stood v large6 (listed t) os₆ o₆ s₆ → Stood w (large6 || too_large (restored t)) (restored t) os o s → SevenAnswer x (all_seven t) os o s
+  seven_answer p {q} {r} v w {os = os} {o = o} {s = s} e a b c d f = subst (λ (y : Option Seven). SevenAnswer y (all_seven t) os o s) (sym e) (go w f)
     where
       all : (large6 || too_large (restored t)) ≡ any too_large (all_seven t)
       all = nested (too_large (rotated t)) (too_large (skipped t)) (too_large (unrolled t)) (too_large (concatenated t)) (too_large (factored t)) (too_large (listed t)) (too_large (restored t))
 
-      go : (w : Wrote) → Stood w (large6 || too_large (restored t)) (restored t) os o s → SevenAnswer (seven_of (rows_of p) (rows_of q.first) (rows_of q.last) (rows_of r.first) (rows_of r.last) (rows_of v) w) (all_seven t) os o s
-      go (Done y) f =
+      go : (w : Option Place) → Stood w (large6 || too_large (restored t)) (restored t) os o s → SevenAnswer (seven_of (rows_of p) (rows_of q.first) (rows_of q.last) (rows_of r.first) (rows_of r.last) (rows_of v) w) (all_seven t) os o s
+      go (Some y) f =
           let l7 : (large6 || too_large (restored t)) ≡ false = f.fits y refl in
           let l6 : large6 ≡ false = first_of large6 _ l7 in
           let l5 : large5 ≡ false = first_of large5 _ l6 in
@@ -201,4 +199,4 @@ module _ (t : Table Bytes) where
         where
           same : {i j k l m n x i' j' k' l' m' n' x' : ℕ} → i ≡ i' → j ≡ j' → k ≡ k' → l ≡ l' → m ≡ m' → n ≡ n' → x ≡ x' → ◌≡◌ {A = List ℕ} (i ∷ j ∷ k ∷ l ∷ m ∷ n ∷ x ∷ []) (i' ∷ j' ∷ k' ∷ l' ∷ m' ∷ n' ∷ x' ∷ [])
           same a b c d e f g = cc
-      go Full f = sym all ∙ f.full refl
+      go None f = sym all ∙ f.full refl

@@ -1,4 +1,5 @@
 -- Work areas of full size: a table fits them exactly where it is not too large. Assumes nothing.
+use Rattle.std.specs.Prelude.{None, Option, Some}
 use mathlib.Core.Path.{◌≡◌, refl, sym, ◌∙◌, subst}
 use mathlib.Core.Bool.{true≢false, Bool, true, false, ◌||◌}
 use mathlib.Core.List.{List}
@@ -15,8 +16,6 @@ use Rattle.grammar.proofs.Logic.{or_left, or_right}
 use Rattle.refusals.proofs.Fours.{neither_left, neither_right}
 use Rattle.writing.specs.Writes.{Areas}
 use Rattle.writing.specs.declared.Place.{Place}
-use Rattle.writing.specs.declared.Wrote.{Wrote}
-use Rattle.writing.specs.declared.Wrote.TheVariants.{Done, Full}
 use Rattle.passes.specs.Passes.{step_of, Front, TableFits, PassAnswer}
 use Rattle.passes.proofs.Tables.{each_length}
 use Rattle.turns.specs.Chain.{Sized, Stood, after, rows_of}
@@ -54,26 +53,26 @@ pub front_few : {q : Place} {os o s : List ℕ} (t : Table Bytes) → Sized os o
 front_few t z f = omega (arith, (front_within t f).0, z.rules)
 
 -- what the steps so far came to, by their answer
-pub full_stood : {large : Bool} {t : Table Bytes} {os o s : List ℕ} → large ≡ true → Stood Full large t os o s
+pub full_stood : {large : Bool} {t : Table Bytes} {os o s : List ℕ} → large ≡ true → Stood None large t os o s
 full_stood h = record { full = λ _. h; fits = λ q e. let z : ◌≡◌ {A = ℕ} 0 1 = cc in absurd (omega arith); front = λ q e. let z : ◌≡◌ {A = ℕ} 0 1 = cc in absurd (omega arith) }
 
-done_stood : {p : Place} {large : Bool} {t : Table Bytes} {os o s : List ℕ} → large ≡ false → Front p t os o s → Stood (Done p) large t os o s
+done_stood : {p : Place} {large : Bool} {t : Table Bytes} {os o s : List ℕ} → large ≡ false → Front p t os o s → Stood (Some p) large t os o s
 done_stood {p} {large} {t} {os} {o} {s} h f =
     record { full = λ e. let z : ◌≡◌ {A = ℕ} 0 1 = cc in absurd (omega arith); fits = λ _ _. h; front = λ q e. let z : p ≡ q = cc in subst (λ (x : Place). Front x t os o s) z f }
 
 -- the rows of the last table
-pub stood_rows : (a : Wrote) {large : Bool} {t : Table Bytes} {os o s : List ℕ} → Stood a large t os o s → large ≡ false → rows_of a ≡ row_count t
-stood_rows (Done q) h e = (h.front q refl).rows
-stood_rows Full h e = absurd (true≢false (sym (h.full refl) ∙ e))
+pub stood_rows : (a : Option Place) {large : Bool} {t : Table Bytes} {os o s : List ℕ} → Stood a large t os o s → large ≡ false → rows_of a ≡ row_count t
+stood_rows (Some q) h e = (h.front q refl).rows
+stood_rows None h e = absurd (true≢false (sym (h.full refl) ∙ e))
 
 -- one table more: it stands in areas of full size, or was not written, or did not fit
 neither : (a b : Bool) → a ≡ false → b ≡ false → (a || b) ≡ false
 neither a b h k = rw (h, k) refl
 
-pub front_stood : {p : Place} {large : Bool} (t : Table Bytes) {os o s : List ℕ} → large ≡ false → Sized os o s → Front p t os o s → Stood (Done p) (large || too_large t) t os o s
+pub front_stood : {p : Place} {large : Bool} (t : Table Bytes) {os o s : List ℕ} → large ≡ false → Sized os o s → Front p t os o s → Stood (Some p) (large || too_large t) t os o s
 front_stood {large = large} t e z f = done_stood (neither large (too_large t) e (front_fine t z f)) f
 
-pub full_stays : {a : Wrote} {large : Bool} {t : Table Bytes} {os o s : List ℕ} (u : Table Bytes) {os' o' s' : List ℕ} → Stood a large t os o s → a ≡ Full → Stood Full (large || too_large u) u os' o' s'
+pub full_stays : {a : Option Place} {large : Bool} {t : Table Bytes} {os o s : List ℕ} (u : Table Bytes) {os' o' s' : List ℕ} → Stood a large t os o s → a ≡ None → Stood None (large || too_large u) u os' o' s'
 full_stays {large = large} u h e = full_stood (or_left large (too_large u) (h.full e))
 
 full_large : (t : Table Bytes) (os o s : List ℕ) → Sized os o s → length t ≤ max_rules → (TableFits t os o s → ⊥) → too_large t ≡ true
@@ -83,9 +82,9 @@ full_large t os o s z l h = go (too_large t) refl
     go true q = refl
     go false q = absurd (h (sized_room t z l q))
 
-pub pass_stood : (a : Wrote) {large : Bool} (t : Table Bytes) {os o s os' o' s' : List ℕ} → large ≡ false → Sized os o s → Sized os' o' s' → length t ≤ max_rules → PassAnswer a t os o s os' o' s' → Stood a (large || too_large t) t os' o' s'
-pass_stood (Done q) t e z z' l h = front_stood t e z' h
-pass_stood Full {large} t {os} {o} {s} e z z' l h = full_stood (or_right large (too_large t) (full_large t os o s z l h))
+pub pass_stood : (a : Option Place) {large : Bool} (t : Table Bytes) {os o s os' o' s' : List ℕ} → large ≡ false → Sized os o s → Sized os' o' s' → length t ≤ max_rules → PassAnswer a t os o s os' o' s' → Stood a (large || too_large t) t os' o' s'
+pass_stood (Some q) t e z z' l h = front_stood t e z' h
+pass_stood None {large} t {os} {o} {s} e z z' l h = full_stood (or_right large (too_large t) (full_large t os o s z l h))
 
 -- a step keeps the number of rules
 pub few_after : (step : ℕ) (look t : Table Bytes) {p : Place} {os o s : List ℕ} → Sized os o s → Front p t os o s → length (after step look t) ≤ max_rules

@@ -1,4 +1,5 @@
 -- A turn is a pass over the parts that hold the packed table. Assumes nothing.
+use Rattle.std.specs.Prelude.{Option, Some}
 use mathlib.Core.Path.{◌≡◌, sym, ap, ◌∙◌, subst}
 use mathlib.Core.Bool.{Bool, ◌||◌}
 use mathlib.Core.List.{List}
@@ -15,8 +16,6 @@ use Rattle.grammar.specs.Steps.{each, restore}
 use Rattle.grammar.specs.Optimize.{over}
 use Rattle.names.specs.Names.{AllIndexed}
 use Rattle.writing.specs.declared.Place.{Place}
-use Rattle.writing.specs.declared.Wrote.{Wrote}
-use Rattle.writing.specs.declared.Wrote.TheVariants.{Done}
 use Rattle.packing.specs.Packing.{Covers}
 use Rattle.restorer.specs.Lends.{Marked, Settles}
 use Rattle.passes.specs.Passes.{AsksAll, Lent, Holds, Held, Front, Passing, TableFits, PassAnswer, step_of}
@@ -30,7 +29,7 @@ pub holds_part : {p : Place} (t : Table Bytes) {os o s : List ℕ} (n : ℕ) →
 holds_part {p} t {os} {o} {s} n e f = subst (λ (k : ℕ). Holds (packed_from 0 t) (take k os) (take (p.rows * row_width) o) (take p.text s)) (sym e) (holds_front t f)
 
 -- a table that stands up to a place
-module _ {n : ℕ} {a : Wrote} {os o s os₂ o₂ s₂ : List ℕ} (k : Stands n a os o s os₂ o₂ s₂) {p : Place} (e : a ≡ Done p) where
+module _ {n : ℕ} {a : Option Place} {os o s os₂ o₂ s₂ : List ℕ} (k : Stands n a os o s os₂ o₂ s₂) {p : Place} (e : a ≡ Some p) where
   stands_front : Front p k.table os o s
   stands_front = k.stood.front p e
 
@@ -94,18 +93,18 @@ module _ {n : ℕ} {a : Wrote} {os o s os₂ o₂ s₂ : List ℕ} (k : Stands n
   pub restore_passing : {marks : List ℕ} → Marked (take n os) (take (p.rows * row_width) o) (take p.text s) marks → Settles (take n os) (take (p.rows * row_width) o) (take p.text s) marks → Passing 7 (take n os) (take (p.rows * row_width) o) (take p.text s) marks (take n os) (take (p.rows * row_width) o) (take p.text s) os₂ o₂ s₂
   restore_passing m z = let h = stands_holds in stands_passing (packed_from 0 k.table) (record { rules = h.rules; rows = h.rows }) (asks_seven m z (packed_from 0 k.table))
 
-pub turn_passing : {step : ℕ} {rs₀ ws₀ : List ℕ} {text₀ : Bytes} {marks : List ℕ} {n : ℕ} {a : Wrote} {os o s os₂ o₂ s₂ : List ℕ} (k : Turning step rs₀ ws₀ text₀ marks n a os o s os₂ o₂ s₂) {p : Place} → a ≡ Done p → Passing step rs₀ ws₀ text₀ marks (take n os) (take (p.rows * row_width) o) (take p.text s) os₂ o₂ s₂
+pub turn_passing : {step : ℕ} {rs₀ ws₀ : List ℕ} {text₀ : Bytes} {marks : List ℕ} {n : ℕ} {a : Option Place} {os o s os₂ o₂ s₂ : List ℕ} (k : Turning step rs₀ ws₀ text₀ marks n a os o s os₂ o₂ s₂) {p : Place} → a ≡ Some p → Passing step rs₀ ws₀ text₀ marks (take n os) (take (p.rows * row_width) o) (take p.text s) os₂ o₂ s₂
 turn_passing {step} {rs₀} {ws₀} {text₀} {marks} {n} {a} {os} {o} {s} k {p} e =
     let t : Table Bytes = k.stands.table in
     let f : Front p t os o s = k.stands.stood.front p e in
     stands_passing k.stands e k.given k.lent (subst (λ (x : Bytes). AsksAll step rs₀ ws₀ text₀ marks (take (p.rows * row_width) o) x (packed_from 0 t)) (sym f.bytes) (subst (λ (w : List ℕ). AsksAll step rs₀ ws₀ text₀ marks w (table_text t) (packed_from 0 t)) (sym f.row_words_lem) k.asks))
 
 -- the other work table may be another one, of full size
-pub stands_other : {n : ℕ} {a : Wrote} {os o s os₂ o₂ s₂ os₃ o₃ s₃ : List ℕ} → Stands n a os o s os₂ o₂ s₂ → Sized os₃ o₃ s₃ → Stands n a os o s os₃ o₃ s₃
+pub stands_other : {n : ℕ} {a : Option Place} {os o s os₂ o₂ s₂ os₃ o₃ s₃ : List ℕ} → Stands n a os o s os₂ o₂ s₂ → Sized os₃ o₃ s₃ → Stands n a os o s os₃ o₃ s₃
 stands_other k z = record { table = k.table; large = k.large; stood = k.stood; count = k.count; works = record { one = k.works.one; other = z } }
 
 -- the table t, of n words of rules, stands up to p in front of three areas of full size
-module _ {a : Wrote} {p : Place} (e : a ≡ Done p) {t : Table Bytes} {large : Bool} {os o s : List ℕ} (h : Stood a large t os o s) {n : ℕ} (c : n ≡ length t * rule_width) where
+module _ {a : Option Place} {p : Place} (e : a ≡ Some p) {t : Table Bytes} {large : Bool} {os o s : List ℕ} (h : Stood a large t os o s) {n : ℕ} (c : n ≡ length t * rule_width) where
   held_front : Front p t os o s
   held_front = h.front p e
 
@@ -126,21 +125,21 @@ module _ {a : Wrote} {p : Place} (e : a ≡ Done p) {t : Table Bytes} {large : B
       }
 
   -- what a step gives that leaves it as it is
-  same_stood : (u : Table Bytes) (os₂ o₂ s₂ : List ℕ) {os' o' s' : List ℕ} → Sized os' o' s' → os' ≡ over (take n os) os₂ → o' ≡ over (take (p.rows * row_width) o) o₂ → s' ≡ over (take p.text s) s₂ → u ≡ t → Stood (Done p) (large || too_large u) u os' o' s'
+  same_stood : (u : Table Bytes) (os₂ o₂ s₂ : List ℕ) {os' o' s' : List ℕ} → Sized os' o' s' → os' ≡ over (take n os) os₂ → o' ≡ over (take (p.rows * row_width) o) o₂ → s' ≡ over (take p.text s) s₂ → u ≡ t → Stood (Some p) (large || too_large u) u os' o' s'
   same_stood u os₂ o₂ s₂ {os'} {o'} {s'} z i j k q = front_stood u (h.fits p e) z (subst (λ (x : Table Bytes). Front p x os' o' s') (sym q) (copied_front os₂ o₂ s₂ os' o' s' i j k))
 
-  pub still_stood : (F : ℕ → E → E) (os₂ o₂ s₂ : List ℕ) {os' o' s' : List ℕ} → Sized os' o' s' → os' ≡ over (take n os) os₂ → o' ≡ over (take (p.rows * row_width) o) o₂ → s' ≡ over (take p.text s) s₂ → (let u = resolve_table (take p.text s) (packed_from 0 t) in each F u ≡ u) → Stood (Done p) (large || too_large (each F t)) (each F t) os' o' s'
+  pub still_stood : (F : ℕ → E → E) (os₂ o₂ s₂ : List ℕ) {os' o' s' : List ℕ} → Sized os' o' s' → os' ≡ over (take n os) os₂ → o' ≡ over (take (p.rows * row_width) o) o₂ → s' ≡ over (take p.text s) s₂ → (let u = resolve_table (take p.text s) (packed_from 0 t) in each F u ≡ u) → Stood (Some p) (large || too_large (each F t)) (each F t) os' o' s'
   still_stood F os₂ o₂ s₂ z i j k q = same_stood (each F t) os₂ o₂ s₂ z i j k (subst (λ (x : Table Bytes). each F x ≡ x) (front_is t held_front) q)
 
-  pub unrestored_stood : (os₂ o₂ s₂ : List ℕ) {os' o' s' : List ℕ} → Sized os' o' s' → os' ≡ over (take n os) os₂ → o' ≡ over (take (p.rows * row_width) o) o₂ → s' ≡ over (take p.text s) s₂ → (let u = resolve_table (take p.text s) (packed_from 0 t) in each (λ _. restore u) u ≡ u) → Stood (Done p) (large || too_large (after 7 t t)) (after 7 t t) os' o' s'
+  pub unrestored_stood : (os₂ o₂ s₂ : List ℕ) {os' o' s' : List ℕ} → Sized os' o' s' → os' ≡ over (take n os) os₂ → o' ≡ over (take (p.rows * row_width) o) o₂ → s' ≡ over (take p.text s) s₂ → (let u = resolve_table (take p.text s) (packed_from 0 t) in each (λ _. restore u) u ≡ u) → Stood (Some p) (large || too_large (after 7 t t)) (after 7 t t) os' o' s'
   unfolding step_of
   unrestored_stood os₂ o₂ s₂ z i j k q = same_stood (after 7 t t) os₂ o₂ s₂ z i j k (subst (λ (x : Table Bytes). each (λ _. restore x) x ≡ x) (front_is t held_front) q)
 
   -- or that writes it anew
-  pub turned_stood : (r : Wrote) (F : ℕ → E → E) {os₂ o₂ s₂ os' o' s' : List ℕ} → Sized os o s → Sized os₂ o₂ s₂ → Sized os' o' s' → PassAnswer r (each F (resolve_table (take p.text s) (packed_from 0 t))) os₂ o₂ s₂ os' o' s' → Stood r (large || too_large (each F t)) (each F t) os' o' s'
+  pub turned_stood : (r : Option Place) (F : ℕ → E → E) {os₂ o₂ s₂ os' o' s' : List ℕ} → Sized os o s → Sized os₂ o₂ s₂ → Sized os' o' s' → PassAnswer r (each F (resolve_table (take p.text s) (packed_from 0 t))) os₂ o₂ s₂ os' o' s' → Stood r (large || too_large (each F t)) (each F t) os' o' s'
   turned_stood r F {os₂} {o₂} {s₂} {os'} {o'} {s'} z z₂ z' q =
       let f : Front p t os o s = held_front in
       pass_stood r (each F t) (h.fits p e) z₂ z' (omega (arith, each_length F t, front_few t z f)) (subst (λ (x : Table Bytes). PassAnswer r (each F x) os₂ o₂ s₂ os' o' s') (front_is t f) q)
 
-  pub restored_stood : (r : Wrote) {os₂ o₂ s₂ os' o' s' : List ℕ} → Sized os o s → Sized os₂ o₂ s₂ → Sized os' o' s' → (let u = resolve_table (take p.text s) (packed_from 0 t) in PassAnswer r (each (step_of 7 u) u) os₂ o₂ s₂ os' o' s') → Stood r (large || too_large (after 7 t t)) (after 7 t t) os' o' s'
+  pub restored_stood : (r : Option Place) {os₂ o₂ s₂ os' o' s' : List ℕ} → Sized os o s → Sized os₂ o₂ s₂ → Sized os' o' s' → (let u = resolve_table (take p.text s) (packed_from 0 t) in PassAnswer r (each (step_of 7 u) u) os₂ o₂ s₂ os' o' s') → Stood r (large || too_large (after 7 t t)) (after 7 t t) os' o' s'
   restored_stood r {os₂} {o₂} {s₂} {os'} {o'} {s'} z z₂ z' q = turned_stood r (step_of 7 t) z z₂ z' (subst (λ (x : Table Bytes). PassAnswer r (each (step_of 7 x) (resolve_table (take p.text s) (packed_from 0 t))) os₂ o₂ s₂ os' o' s') (front_is t held_front) q)

@@ -15,52 +15,57 @@ use grammar::{ROW_WIDTH, RULE_WIDTH};
 use passes::{
     CONCATENATE_STEP, FACTOR_STEP, LIST_STEP, RESTORE_STEP, ROTATE_STEP, SKIP_STEP, UNROLL_STEP,
 };
-use writing::{Place, Wrote};
+use writing::Place;
 
 // What each of two steps wrote.
 #[derive(Clone, Copy)]
 pub struct Two {
-    pub first: Wrote,
-    pub last: Wrote,
+    pub first: Option<Place>,
+    pub last: Option<Place>,
 }
 
-// Seven steps: the rows after the first six, and where the last's table ends.
+// Seven steps: the rows after each of the first six, and where the last's table ends.
 #[derive(Clone, Copy)]
-pub enum Seven {
-    Done(usize, usize, usize, usize, usize, usize, Place),
-    Full,
+pub struct Seven {
+    pub rotated: usize,
+    pub skipped: usize,
+    pub unrolled: usize,
+    pub concatenated: usize,
+    pub factored: usize,
+    pub listed: usize,
+    pub place: Place,
 }
 
 // The rows that a step wrote, 0 where it wrote none.
-fn rows_of(a: Wrote) -> usize
+fn rows_of(a: Option<Place>) -> usize
     ensures { result ≡ rows_of a }
 {
-    let Wrote::Done(p) = a else {
-        return 0;
-    };
-    p.rows
+    match a {
+        Some(p) => p.rows,
+        None => 0,
+    }
 }
 
 // What seven steps wrote, in one.
-fn joined(a: Wrote, b: Two, c: Two, d: Wrote, e: Wrote) -> Seven
-    ensures { result ≡ seven_of (rows_of a) (rows_of b.first) (rows_of b.last) (rows_of c.first) (rows_of c.last) (rows_of d) e }
+fn joined(
+    rotate: Option<Place>,
+    a: Two,
+    b: Two,
+    list: Option<Place>,
+    restore: Option<Place>,
+) -> Option<Seven>
+    ensures { result ≡ seven_of (rows_of rotate) (rows_of a.first) (rows_of a.last) (rows_of b.first) (rows_of b.last) (rows_of list) restore }
 {
-    let Wrote::Done(q) = e else {
-        return Seven::Full;
-    };
-    let f = b.first;
-    let g = b.last;
-    let h = c.first;
-    let i = c.last;
-    Seven::Done(
-        rows_of(a),
-        rows_of(f),
-        rows_of(g),
-        rows_of(h),
-        rows_of(i),
-        rows_of(d),
-        q,
-    )
+    let place = restore?;
+    Some(Seven {
+        rotated: rows_of(rotate),
+        skipped: rows_of(a.first),
+        unrolled: rows_of(a.last),
+        concatenated: rows_of(b.first),
+        factored: rows_of(b.last),
+        listed: rows_of(list),
+        place,
+    })
 }
 
 // A step from the packed table in front of one work table, up to the place that the step before it left, to the other work table: copied as it is where
@@ -72,20 +77,18 @@ fn turn(
     text0: &[u8],
     marks: &[u32],
     count: usize,
-    last: Wrote,
+    last: Option<Place>,
     heads: &[u32],
     rows: &[u32],
     text: &[u8],
     heads2: &mut [u32],
     rows2: &mut [u32],
     text2: &mut [u8],
-) -> Wrote
+) -> Option<Place>
     requires { Turning step heads0.now rows0.now text0.now marks.now count last heads.now rows.now text.now heads2.old rows2.old text2.old }
     ensures { ((gs : Table Span) (t : Table Bytes) (large : Bool) → Lent gs heads0.now rows0.now → Stood last large t heads.now rows.now text.now → count ≡ length t * rule_width → let u : Table Bytes = after step (resolve_table text0.now gs) t in Stood result (large || too_large u) u heads2.new rows2.new text2.new) }
 {
-    let Wrote::Done(p) = last else {
-        return Wrote::Full;
-    };
+    let p = last?;
     let words = p.rows * ROW_WIDTH;
     let bytes = p.text;
     let h = &heads[..count];
@@ -94,7 +97,7 @@ fn turn(
     let stay = passes::first_fired(step, h, r, t, 0, 0);
     if stay == count / RULE_WIDTH {
         packing::put_out(count, p, heads, rows, text, heads2, rows2, text2);
-        return Wrote::Done(p);
+        return Some(p);
     }
     passes::pass(
         step, heads0, rows0, text0, marks, h, r, t, heads2, rows2, text2, stay,
@@ -110,7 +113,7 @@ fn two_steps(
     text0: &[u8],
     marks: &[u32],
     count: usize,
-    last: Wrote,
+    last: Option<Place>,
     heads: &mut [u32],
     rows: &mut [u32],
     text: &mut [u8],
@@ -135,20 +138,18 @@ fn two_steps(
 fn restore(
     marks: &mut [u32],
     count: usize,
-    last: Wrote,
+    last: Option<Place>,
     heads: &[u32],
     rows: &[u32],
     text: &[u8],
     heads2: &mut [u32],
     rows2: &mut [u32],
     text2: &mut [u8],
-) -> Wrote
+) -> Option<Place>
     requires { Restoring marks.old count last heads.now rows.now text.now heads2.old rows2.old text2.old }
     ensures { ((t : Table Bytes) (large : Bool) → Stood last large t heads.now rows.now text.now → count ≡ length t * rule_width → let u : Table Bytes = after 7 t t in Stood result (large || too_large u) u heads2.new rows2.new text2.new) }
 {
-    let Wrote::Done(p) = last else {
-        return Wrote::Full;
-    };
+    let p = last?;
     let words = p.rows * ROW_WIDTH;
     let bytes = p.text;
     let h = &heads[..count];
@@ -156,7 +157,7 @@ fn restore(
     let t = &text[..bytes];
     if restorer::still(r, t) {
         packing::put_out(count, p, heads, rows, text, heads2, rows2, text2);
-        return Wrote::Done(p);
+        return Some(p);
     }
     // what step 7 writes to is free until it begins
     restorer::settle(h, r, t, marks, heads2);
@@ -188,7 +189,7 @@ pub fn all_steps(
     b_rules: &mut [u32],
     b_rows: &mut [u32],
     b_text: &mut [u8],
-) -> Seven
+) -> Option<Seven>
     requires ready { Ready rules.now rows.now text.now marks.old }
     requires works { Works a_rules.old a_rows.old a_text.old b_rules.old b_rows.old b_text.old }
     ensures { (t : Table Span) → Lent t rules.now rows.now → SevenAnswer result (all_seven (resolve_table text.now t)) a_rules.new a_rows.new a_text.new }

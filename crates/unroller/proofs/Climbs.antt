@@ -1,25 +1,22 @@
 -- Up a run of nodes with one child each: what stands so far, node by node unrolled. Assumes nothing.
+use Rattle.std.specs.Prelude.{None, Option, Some}
 use mathlib.Core.Path.{◌≡◌, refl, sym, ap, subst, ◌∙◌}
 use mathlib.Core.Bool.{false}
 use mathlib.Core.List.{List, [], ◌∷◌}
-use Prim.Native.Nat.{ℕ, zero, suc, ◌+◌, ◌-◌, ◌/◌, ◌≤◌, ◌<◌}
+use Prim.Native.Nat.{ℕ, zero, suc, ◌+◌, ◌-◌, ◌≤◌, ◌<◌}
 use native.Mathlib.Omega.{arith}
 use lib.ListN.{length}
-use Rattle.grammar.specs.Numbers.{row_width}
 use Rattle.grammar.specs.Basic.{Bytes}
 use Rattle.grammar.specs.Tree.{Un, Expr, E, lit, fixed, skip, un, bin, un_head, any_node}
 use Rattle.grammar.specs.Rows.{Span}
 use Rattle.grammar.specs.Text.{resolve}
 use Rattle.grammar.specs.Steps.{unroll, unrolled}
 use Rattle.grammar.specs.Refusals.{zero_un, zero_count}
-use Rattle.rows.specs.Rows.{Inside, At, kind_at, x_at, y_at, shape_of}
-use Rattle.rows.specs.declared.Shape.TheVariants.{Lit, One}
-use Rattle.rows.proofs.Laws.{root, root_found, at_un, found_row}
-use Rattle.rows.proofs.Cells.{in_text}
+use Rattle.rows.specs.Rows.{At, row_at, kind_at, shape_of}
+use Rattle.rows.specs.declared.Shape.TheVariants.{One}
+use Rattle.rows.proofs.Laws.{Found, root, root_found, root_there, at_un}
 use Rattle.rows.proofs.Views.{found_head, found_shape}
 use Rattle.writing.specs.declared.Place.{Place}
-use Rattle.writing.specs.declared.Wrote.{Wrote}
-use Rattle.writing.specs.declared.Wrote.TheVariants.{Done, Full}
 use Rattle.writing.specs.Writes.{Areas, Fits, Written, Answer}
 use Rattle.writing.proofs.Trees.{done_written, full_not, written_out, written_lits}
 use Rattle.chains.specs.Runs.{ups, low}
@@ -30,10 +27,6 @@ use Rattle.unroller.specs.Climbs.{climbed, RunOver, Standing, ClimbedAnswer}
 use Rattle.unroller.proofs.Lays.{written_source}
 use Rattle.unroller.proofs.Nodes.{unrolled_larger, answer_over, fits_larger}
 use Rattle.unroller.proofs.Walks.{or_false, counted_any}
-
--- the bytes of a literal lie in the text
-pub lit_in : (m : ℕ) (w : List ℕ) (i : ℕ) {x y : ℕ} → Inside w m → i < length w / row_width → shape_of (kind_at w i) ≡ Lit → x ≡ x_at w i → y ≡ y_at w i → x + y ≤ m
-lit_in m w i f h s d e = omega (arith, in_text m f (found_row w i h) s, d, e)
 
 -- ---- an unrolled tree is its run, unrolled over the unrolled tree below
 
@@ -79,7 +72,7 @@ pub record Up (w o₀ t₀ : List ℕ) (base root : ℕ) (p q : Place) (o t : Li
   pub high : i ≤ root
   pub words : length o ≡ length o₀
   pub bytes : length t ≡ length t₀
-  pub kept : (r : Expr Span) → At w i r → base + length (ups r) ≡ i → any_node zero_count r ≡ false → ClimbedAnswer (Done s) q p (ups r) o₀ o t₀ t
+  pub kept : (r : Expr Span) → At w i r → base + length (ups r) ≡ i → any_node zero_count r ≡ false → ClimbedAnswer (Some s) q p (ups r) o₀ o t₀ t
 
 climbed_none : (us : List Un) (e : E) → length us ≡ 0 → e ≡ climbed us e
 climbed_none [] e h = refl
@@ -99,10 +92,13 @@ module _ {w o₀ t₀ : List ℕ} {base top : ℕ} {p q : Place} {o t : List ℕ
   next_tree : i < top → Under w base (i + 1) c.tree
   next_tree l = under c.tree c.at c.counts (h c.tree c.at) (top - (i + 1)) (i + 1) (omega (arith, u.low)) (omega arith)
 
-  pub up_headed : i < top → Standing q p o₀ t₀ → Headed p s (kind_at w (i + 1), x_at w (i + 1), y_at w (i + 1)) o t
-  up_headed l d = let n = next_tree l in headed n.tree n.at n.run n.counts
+  pub up_there : i < top → row_at w (i + 1) ≡ None → ⊥
+  up_there l = root_there (next_tree l).at
+
+  pub up_headed : i < top → {k x y m : ℕ} → Found w (i + 1) k x y m → Standing q p o₀ t₀ → Headed p s (k, x, y) o t
+  up_headed l {k} {x} {y} there d = let n = next_tree l in headed n.tree n.at n.run n.counts
     where
-      headed : (r : Expr Span) → At w (i + 1) r → base + length (ups r) ≡ i + 1 → any_node zero_count r ≡ false → Headed p s (kind_at w (i + 1), x_at w (i + 1), y_at w (i + 1)) o t
+      headed : (r : Expr Span) → At w (i + 1) r → base + length (ups r) ≡ i + 1 → any_node zero_count r ≡ false → Headed p s (k, x, y) o t
       headed (lit j z) a n f = absurd (omega (arith, u.low))
       headed (fixed z) a n f = absurd (omega (arith, u.low))
       headed (skip ss) a n f = absurd (omega (arith, u.low))
@@ -112,7 +108,7 @@ module _ {w o₀ t₀ : List ℕ} {base top : ℕ} {p q : Place} {o t : List ℕ
           let g = or_false (zero_un v) (any_node zero_count r) f in
           record {
             op = v;
-            is = found_head (found_row w (i + 1) (root a).inside) a;
+            is = found_head there a;
             counts = g.0;
             tree = climbed (ups r) d.tree;
             source = written_source (u.kept r b (omega arith) g.1 d.tree d.words d.bytes d.written);
@@ -120,19 +116,19 @@ module _ {w o₀ t₀ : List ℕ} {base top : ℕ} {p q : Place} {o t : List ℕ
           }
 
   -- the next row was put, or did not fit
-  module _ (l : i < top) (o₁ t₁ : List ℕ) (a : Wrote) (f : (v : Un) (e : E) → (kind_at w (i + 1), x_at w (i + 1), y_at w (i + 1)) ≡ un_head v → Source p s e o t → Answer a p (unrolled v e) o o₁ t t₁) where
+  module _ (l : i < top) {k x y m : ℕ} (there : Found w (i + 1) k x y m) (o₁ t₁ : List ℕ) (a : Option Place) (f : (v : Un) (e : E) → (k, x, y) ≡ un_head v → Source p s e o t → Answer a p (unrolled v e) o o₁ t t₁) where
     next : (r : Expr Span) → At w (i + 1) r → base + length (ups r) ≡ i + 1 → any_node zero_count r ≡ false → ClimbedAnswer a q p (ups r) o₀ o₁ t₀ t₁
     next (lit j z) b n x = absurd (omega (arith, u.low))
     next (fixed z) b n x = absurd (omega (arith, u.low))
     next (skip ss) b n x = absurd (omega (arith, u.low))
     next (bin j l r) b n x = absurd (omega (arith, u.low))
-    next (un v r) b n x = λ e o₂ t₂ m.
+    next (un v r) b n z = λ e o₂ t₂ m.
         let d : At w i r = subst (λ (n : ℕ). At w n r) (omega arith) (at_un b) in
-        let g = or_false (zero_un v) (any_node zero_count r) x in
+        let g = or_false (zero_un v) (any_node zero_count r) z in
         let y = u.kept r d (omega arith) g.1 e o₂ t₂ m in
-        answer_over y (unrolled v (climbed (ups r) e)) (unrolled_larger v _ g.0) a o₁ t₁ (f v _ (found_head (found_row w (i + 1) (root b).inside) b) (written_source y))
+        answer_over y (unrolled v (climbed (ups r) e)) (unrolled_larger v _ g.0) a o₁ t₁ (f v _ (found_head there b) (written_source y))
 
-    pub up_more : {z : Place} → a ≡ Done z → length o₁ ≡ length o → length t₁ ≡ length t → Up w o₀ t₀ base top p q o₁ t₁ z (i + 1)
+    pub up_more : {z : Place} → a ≡ Some z → length o₁ ≡ length o → length t₁ ≡ length t → Up w o₀ t₀ base top p q o₁ t₁ z (i + 1)
     up_more e m k = record {
       low = omega (arith, u.low);
       high = omega arith;
@@ -141,13 +137,13 @@ module _ {w o₀ t₀ : List ℕ} {base top : ℕ} {p q : Place} {o t : List ℕ
       kept = λ r b n x y o₂ t₂ v. done_written p _ o₂ o₁ t₂ t₁ e (next r b n x y o₂ t₂ v);
     }
 
-    pub up_full : a ≡ Full → (r : Expr Span) → At w top r → ClimbedAnswer Full q p (ups r) o₀ o₁ t₀ t₁
+    pub up_full : a ≡ None → (r : Expr Span) → At w top r → ClimbedAnswer None q p (ups r) o₀ o₁ t₀ t₁
     up_full e r b x o₂ t₂ y j =
         let v = under r b (counted_any c b) (h r b) (top - (i + 1)) (i + 1) (omega (arith, u.low)) (omega arith) in
         full_not p _ o₂ o₁ t₂ t₁ e (next v.tree v.at v.run v.counts x o₂ t₂ y) (v.fits x p o₂ t₂ j)
 
   -- at the top of the run
-  pub up_all : i ≡ top → (r : Expr Span) → At w top r → ClimbedAnswer (Done s) q p (ups r) o₀ o t₀ t
+  pub up_all : i ≡ top → (r : Expr Span) → At w top r → ClimbedAnswer (Some s) q p (ups r) o₀ o t₀ t
   up_all e r b =
       let n = h r b in
       u.kept r (subst (λ (n : ℕ). At w n r) (sym e) b) (omega arith) (counted_any c b)
@@ -169,14 +165,14 @@ module _ {w : List ℕ} {base root : ℕ} (c : Counted w root) (h : RunOver w ba
   pub low_counted : Counted w base
   low_counted = record { tree = low c.tree; at = low_at c.tree c.at base (h c.tree c.at); counts = low_counts c.tree c.counts }
 
-  module _ (t : Bytes) (p : Place) (o o₁ b b₁ : List ℕ) (a : Wrote) (f : (r : Expr Span) → At w base r → Answer a p (unroll (resolve t r)) o o₁ b b₁) where
-    pub low_full : a ≡ Full → (r : Expr Span) → At w root r → Fits p (unroll (resolve t r)) o b → ⊥
+  module _ (t : Bytes) (p : Place) (o o₁ b b₁ : List ℕ) (a : Option Place) (f : (r : Expr Span) → At w base r → Answer a p (unroll (resolve t r)) o o₁ b b₁) where
+    pub low_full : a ≡ None → (r : Expr Span) → At w root r → Fits p (unroll (resolve t r)) o b → ⊥
     low_full e r d g = full_not p _ o o₁ b b₁ e (f (low r) (low_at r d base (h r d))) (fits_climbed r (counted_any c d) _ (subst (λ (x : E). Fits p x o b) (unroll_run t r) g))
 
-    low_done : {q : Place} → a ≡ Done q → (r : Expr Span) → At w root r → Written q p (unroll (resolve t (low r))) o o₁ b b₁
+    low_done : {q : Place} → a ≡ Some q → (r : Expr Span) → At w root r → Written q p (unroll (resolve t (low r))) o o₁ b b₁
     low_done e r d = done_written p _ o o₁ b b₁ e (f (low r) (low_at r d base (h r d)))
 
-    pub low_standing : {q : Place} → a ≡ Done q → Areas o b → Standing q p o₁ b₁
+    pub low_standing : {q : Place} → a ≡ Some q → Areas o b → Standing q p o₁ b₁
     low_standing e g =
         let d = low_done e c.tree c.at in
         record {
@@ -187,5 +183,5 @@ module _ {w : List ℕ} {base root : ℕ} (c : Counted w root) (h : RunOver w ba
           areas = record { words = omega (arith, g.words, written_out d); bytes = omega (arith, g.bytes, written_lits d) };
         }
 
-    pub run_answer : {q : Place} → a ≡ Done q → (z : Wrote) (o₂ b₂ : List ℕ) (r : Expr Span) → At w root r → ClimbedAnswer z q p (ups r) o₁ o₂ b₁ b₂ → Answer z p (unroll (resolve t r)) o o₂ b b₂
+    pub run_answer : {q : Place} → a ≡ Some q → (z : Option Place) (o₂ b₂ : List ℕ) (r : Expr Span) → At w root r → ClimbedAnswer z q p (ups r) o₁ o₂ b₁ b₂ → Answer z p (unroll (resolve t r)) o o₂ b b₂
     run_answer e z o₂ b₂ r d g = subst (λ (x : E). Answer z p x o o₂ b b₂) (sym (unroll_run t r)) (g (unroll (resolve t (low r))) o b (low_done e r d))

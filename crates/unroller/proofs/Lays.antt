@@ -1,4 +1,5 @@
 -- Trees that stand in the areas, items of them, and trees laid one after another. Assumes nothing.
+use Rattle.std.specs.Prelude.{Some}
 use mathlib.Core.Path.{◌≡◌, refl, sym, ap, subst, ◌∙◌}
 use mathlib.Core.List.{List, [], ◌∷◌, ◌++◌, append-nil}
 use Prim.Native.Nat.{ℕ, zero, suc, ◌+◌, ◌-◌, ◌*◌, ◌/◌, ◌≤◌, ◌<◌}
@@ -13,17 +14,16 @@ use Rattle.grammar.specs.Text.{bytes_at, text_of, packed}
 use Rattle.rows.specs.Rows.{At}
 use Rattle.rows.proofs.Laws.{root, at_un, size_pos}
 use Rattle.writing.specs.declared.Place.{Place}
-use Rattle.writing.specs.declared.Wrote.TheVariants.{Done}
 use Rattle.writing.specs.Writes.{Put, RowPut, Written}
 use Rattle.writing.proofs.Puts.{put_out, put_lits, put_then, put_none}
-use Rattle.writing.proofs.Trees.{size_packed, length_packed, written_put, written_out, written_lits, un_tree}
+use Rattle.writing.proofs.Trees.{size_packed, length_packed, written_put, written_lits, un_tree}
 use Rattle.chains.specs.Chains.{sizes, flats, texts, packs}
 use Rattle.chains.proofs.Trees.{sizes_append, flats_append, texts_append, packs_append, sizes_packs}
 use Rattle.chains.proofs.Closes.{length_flats}
 use Rattle.unroller.specs.declared.Item.{Item}
 use Rattle.unroller.specs.declared.Item.TheVariants.{Once, Maybe, Many}
 use Rattle.unroller.specs.Items.{item_of}
-use Rattle.unroller.specs.Copies.{Source, Copyable, Repeatable, Finishable, Laid, behind_of}
+use Rattle.unroller.specs.Copies.{Source, Copyable, Repeatable, Laid, behind_of}
 use Rattle.unroller.proofs.Stores.{stored_parts, stored_run, stored_front, stored_before, stored_same, at_front, at_run}
 
 add_one_mul : (k m : ℕ) → (k + 1) * m ≡ k * m + m
@@ -98,37 +98,20 @@ item_source i {p} {q} {z} {e} {o} {t} h k s = record {
     child Maybe s = let l : z.rows - 1 - 1 ≡ q.rows - 1 = omega (arith, s.rows) in rw l at (at_un s.at)
     child Many s = let l : z.rows - 1 - 1 ≡ q.rows - 1 = omega (arith, s.rows) in rw l at (at_un s.at)
 
--- ---- what `next` and `repeat` ask
-
-pub copy_once : {p q at : Place} {i : Item} {o t : List ℕ} → Copyable p q at i o t → Copyable p q at Once o t
-copy_once {i} c = record {
-  tree = c.tree;
-  source = c.source;
-  behind = c.behind;
-  beyond = c.beyond;
-  fits = record { rows = omega (arith, c.fits.rows, item_size i c.tree); text = omega (arith, c.fits.text, ap length (item_text i c.tree)) };
-  areas = c.areas;
-}
-
-pub copy_finish : {p q at s : Place} {i : Item} {o o' t t' : List ℕ} (c : Copyable p q at i o t) → Written s at c.tree o o' t t' → Finishable at s i o'
-copy_finish {i} c w = record {
-  least = omega (arith, w.rows);
-  most = omega (arith, c.fits.rows, item_size i c.tree, w.rows, written_out w);
-  words = omega (arith, c.areas.words, written_out w);
-}
+-- ---- an item that is finished
 
 pub item_is : {i j : Item} {a p : Place} (e : E) {o o' t t' : List ℕ} → i ≡ j → Written a p (item_of j e) o o' t t' → Written a p (item_of i e) o o' t t'
 item_is {a} {p} e {o} {o'} {t} {t'} h w = subst (λ (k : Item). Written a p (item_of k e) o o' t t') (sym h) w
 
 pub finished : (u : Un) {a q p : Place} {e : E} {o o₁ o₂ t t₁ : List ℕ} → Written q p e o o₁ t t₁ → RowPut a q (un_head u) (q.rows - p.rows + 1) o₁ o₂ → Written a p (un u e) o o₂ t t₁
-finished u {a} {q} {p} {e} {o₂} w r = un_tree w (Done a) u (un_head u) (q.rows - p.rows + 1) o₂ refl (omega (arith, w.rows)) r
+finished u {a} {q} {p} {e} {o₂} w r = un_tree w (Some a) u (un_head u) (q.rows - p.rows + 1) o₂ refl (omega (arith, w.rows)) r
 
 -- ---- one after another
 
 pub laid_append : {z q p : Place} (es fs : List E) {o o₁ o₂ t t₁ t₂ : List ℕ} → Laid q p es o o₁ t t₁ → Laid z q fs o₁ o₂ t₁ t₂ → Laid z p (es ++ fs) o o₂ t t₂
 laid_append {z} {q} {p} es fs {o} {o₁} {o₂} {t} {t₁} {t₂} w v =
     let l : length (flats (packs p.text es)) ≡ sizes es * row_width = length_flats (packs p.text es) ∙ ap (λ (n : ℕ). n * row_width) (sizes_packs p.text es) in
-    let y = put_then w l (Done z) (sizes fs) (flats (packs q.text fs)) (texts fs) o₂ t₂ v in
+    let y = put_then w l (Some z) (sizes fs) (flats (packs q.text fs)) (texts fs) o₂ t₂ v in
     rw (sizes_append es fs, packs_append p.text es fs, flats_append (packs p.text es) (packs (p.text + length (texts es)) fs), texts_append es fs) (rw w.text at y)
 
 pub written_laid : {q p : Place} {e : E} {o o' t t' : List ℕ} → Written q p e o o' t t' → Laid q p (e ∷ []) o o' t t'

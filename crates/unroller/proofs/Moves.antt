@@ -1,7 +1,9 @@
 -- The rows of a packed tree, moved with its text, are those of the tree packed further on. Assumes nothing.
+use Rattle.std.specs.Prelude.{None, Option, Some}
+use Rattle.std.specs.Option.{IsSome}
 use mathlib.Core.Path.{◌≡◌, refl, sym, ap, ◌∙◌}
 use mathlib.Core.List.{List, [], ◌∷◌, ◌++◌, append_assoc, append-nil}
-use Prim.Native.Nat.{ℕ, zero, suc, ◌+◌, ◌-◌, ◌*◌, ◌≤◌, ◌<◌}
+use Prim.Native.Nat.{ℕ, zero, suc, ◌+◌, ◌-◌, ◌*◌, ◌/◌, ◌^◌, ◌≤◌, ◌<◌}
 use native.Mathlib.Nat.{add-zero, add-suc, add_assoc}
 use native.Mathlib.Numerals.{add-one, one-add}
 use native.Mathlib.Decide.{dec_le}
@@ -12,10 +14,11 @@ use Rattle.grammar.specs.Basic.{Bytes}
 use Rattle.grammar.specs.Tree.{E, Expr, lit, fixed, skip, un, bin, size}
 use Rattle.grammar.specs.Rows.{Span, row, str_rows, flat}
 use Rattle.grammar.specs.Text.{joined, text_of, spans, packed}
+use Rattle.rows.specs.declared.Row.{Row}
 use Rattle.rows.specs.declared.Shape.{Shape}
 use Rattle.rows.specs.declared.Shape.TheVariants.{Lit, Num, One, Two, Skips}
-use Rattle.rows.specs.Rows.{kind_at, x_at, y_at, size_at, shape_of, At, AtStrs}
-use Rattle.rows.proofs.Laws.{Found, head_of, root, at_un, at_left_lem, at_right_lem, at_strs, at_first, at_others, size_pos}
+use Rattle.rows.specs.Rows.{kind_at, x_at, y_at, size_at, row_at, shape_of, At, AtStrs}
+use Rattle.rows.proofs.Laws.{Found, row_there, head_of, root, at_un, at_left_lem, at_right_lem, at_strs, at_first, at_others, size_pos}
 use Rattle.rows.proofs.Views.{shape_in, shape_in_lem}
 use Rattle.writing.specs.Writes.{stored}
 use Rattle.writing.proofs.Runs.{stored_then}
@@ -66,6 +69,11 @@ module _ (d : ℕ) (w : List ℕ) where
 
 -- ---- one row, as the code moves it
 
+-- a row that is there is found
+pub row_some : (w : List ℕ) (i : ℕ) {a : Option Row} → a ≡ row_at w i → i < length w / row_width → IsSome a
+row_some w i {a = Some r} e h = refl
+row_some w i {a = None} e h = absurd (row_there w i h (sym e))
+
 pub length_moved : (d : ℕ) (w : List ℕ) (i n : ℕ) → length (moved d w i n) ≡ n * row_width
 unfolding moved_row
 length_moved d w i zero = refl
@@ -79,6 +87,9 @@ not_moved Two d x n = refl
 not_moved Skips d x n = refl
 
 module _ {w : List ℕ} {i k x y n : ℕ} (d : ℕ) (f : Found w i k x y n) where
+  pub lit_fits : Movable d w i → shape_of k ≡ Lit → x + d < 2 ^ 32
+  lit_fits m h = omega (arith, m (ap shape_of f.kind ∙ h), f.x)
+
   pub lit_moved : shape_of k ≡ Lit → row (k, x + d, y) n ≡ moved_row d w i
   unfolding moved_row
   lit_moved h = rw (f.kind, f.x, f.y, f.rows, h)

@@ -1,12 +1,11 @@
 -- A node with one child, unrolled: its items, or its row. Assumes nothing.
+use Rattle.std.specs.Prelude.{None, Option, Some}
 use mathlib.Core.Path.{◌≡◌, refl, sym, ap, subst, ◌∙◌}
-use mathlib.Core.Bool.{Bool, true, false}
+use mathlib.Core.Bool.{false}
 use mathlib.Core.List.{List}
 use Prim.Native.Nat.{ℕ, ◌+◌, ◌-◌, ◌*◌, ◌/◌, ◌^◌, ◌≤◌, ◌<◌}
 use native.Mathlib.Nat.{add-mul, mul-le-mul_left, mul-le-mul_right}
 use native.Mathlib.Omega.{arith}
-use borrow.Author.Tests.{ltb-true, ltb-false}
-use lib.Dec.{ltb}
 use lib.ListN.{length}
 use Rattle.grammar.specs.Numbers.{row_width}
 use Rattle.grammar.specs.Tree.{Head, Un, PosPred, NegPred, Opt, Rep, RepOnce, Push, RestoreOnErr, RepExact, RepMin, RepMax, RepMinMax, E, un, un_head, size}
@@ -14,11 +13,8 @@ use Rattle.grammar.specs.Rows.{flat}
 use Rattle.grammar.specs.Text.{text_of, packed}
 use Rattle.grammar.specs.Steps.{nest, unrolled}
 use Rattle.grammar.specs.Refusals.{zero_un}
-use Rattle.rows.specs.Rows.{Tells}
 use Rattle.rows.proofs.Cells.{un_same}
 use Rattle.writing.specs.declared.Place.{Place}
-use Rattle.writing.specs.declared.Wrote.{Wrote}
-use Rattle.writing.specs.declared.Wrote.TheVariants.{Done, Full}
 use Rattle.writing.specs.Writes.{RowAnswer, Fits, Written, Answer}
 use Rattle.writing.proofs.Trees.{un_tree, length_packed, written_out, written_lits}
 use Rattle.unroller.specs.declared.Items.{Items}
@@ -28,13 +24,6 @@ use Rattle.unroller.proofs.Repeats.{Unrolls, unrolls, items_most}
 use Rattle.unroller.proofs.Lays.{source_written}
 use Rattle.unroller.proofs.Stores.{stored_over}
 use Rattle.unroller.proofs.Spreads.{items_weigh, items_bytes, items_count, nest_weigh, nest_weighs}
-
-pub repeat_tells : (k : ℕ) → 11 < k → Tells (ltb k 17) (IsRepeat k)
-repeat_tells k h = go (ltb k 17) refl
-  where
-    go : (b : Bool) → ltb k 17 ≡ b → Tells b (IsRepeat k)
-    go true e = (h, ltb-true k 17 e)
-    go false e = λ r. omega (arith, ltb-false k 17 e, r.1)
 
 -- any other node stays
 pub not_repeat : (u : Un) (e : E) → (IsRepeat (un_head u).0 → ⊥) → unrolled u e ≡ un u e
@@ -67,10 +56,10 @@ module _ {p q : Place} (k x y : ℕ) {o t : List ℕ} (c : Headed p q (k, x, y) 
     pub node_spread : Spreadable p q n o t
     node_spread = record { tree = c.tree; source = c.source; least = items_are.0.least; most = items_are.1; areas = c.areas }
 
-    pub node_items : (a : Wrote) (u : Un) (e : E) (o' t' : List ℕ) → (k, x, y) ≡ un_head u → Answer a p (nest (items_of n e)) o o' t t' → Answer a p (unrolled u e) o o' t t'
+    pub node_items : (a : Option Place) (u : Un) (e : E) (o' t' : List ℕ) → (k, x, y) ≡ un_head u → Answer a p (nest (items_of n e)) o o' t t' → Answer a p (unrolled u e) o o' t t'
     node_items a u e o' t' h w = subst (λ (z : E). Answer a p z o o' t t') (sym (items_are.0.is e) ∙ ap (λ (z : Un). unrolled z e) (same_op u h)) w
 
-  pub node_row : (a : Wrote) (u : Un) {e : E} (o' : List ℕ) → (IsRepeat k → ⊥) → (k, x, y) ≡ un_head u → Source p q e o t → RowAnswer a q (k, x, y) (q.rows - p.rows + 1) o o' → Answer a p (unrolled u e) o o' t t
+  pub node_row : (a : Option Place) (u : Un) {e : E} (o' : List ℕ) → (IsRepeat k → ⊥) → (k, x, y) ≡ un_head u → Source p q e o t → RowAnswer a q (k, x, y) (q.rows - p.rows + 1) o o' → Answer a p (unrolled u e) o o' t t
   node_row a u {e} o' n h s w =
       let ek : k ≡ (un_head u).0 = ap (λ (h : Head). h.0) h in
       rw (not_repeat u e (rw ek at n)) (un_tree (source_written s) a u (k, x, y) (q.rows - p.rows + 1) o' h (omega (arith, s.rows)) w)
@@ -108,8 +97,8 @@ unrolled_larger (RepMax n) e z = repeat_larger e (unrolls (RepMax n) (omega arit
 unrolled_larger (RepMinMax m n) e z = repeat_larger e (unrolls (RepMinMax m n) (omega arith) (omega arith) z)
 
 -- what is written over its child is written
-pub answer_over : {q p : Place} {e : E} {o o₁ t t₁ : List ℕ} → Written q p e o o₁ t t₁ → (f : E) → Larger e f → (a : Wrote) (o₂ t₂ : List ℕ) → Answer a p f o₁ o₂ t₁ t₂ → Answer a p f o o₂ t t₂
-answer_over {q} {p} {e} {o} {o₁} {t} {t₁} w f l (Done z) o₂ t₂ v =
+pub answer_over : {q p : Place} {e : E} {o o₁ t t₁ : List ℕ} → Written q p e o o₁ t t₁ → (f : E) → Larger e f → (a : Option Place) (o₂ t₂ : List ℕ) → Answer a p f o₁ o₂ t₁ t₂ → Answer a p f o o₂ t t₂
+answer_over {q} {p} {e} {o} {o₁} {t} {t₁} w f l (Some z) o₂ t₂ v =
     let lo = written_out w in
     let lt = written_lits w in
     let x = p.text in
@@ -122,7 +111,7 @@ answer_over {q} {p} {e} {o} {o₁} {t} {t₁} w f l (Done z) o₂ t₂ v =
       words = v.words ∙ rw w.words (stored_over o (flat (packed x e)) (flat (packed x f)) (p.rows * row_width) (omega (arith, length_packed x e, length_packed x f, l.rows)) (omega (arith, length_packed x f)));
       bytes = v.bytes ∙ rw w.bytes (stored_over t (text_of e) (text_of f) x l.text ft);
     }
-answer_over {q} {p} {e} {o} {o₁} {t} {t₁} w f l Full o₂ t₂ v = λ g. v (record { rows = omega (arith, g.rows, written_out w); text = omega (arith, g.text, written_lits w) })
+answer_over {q} {p} {e} {o} {o₁} {t} {t₁} w f l None o₂ t₂ v = λ g. v (record { rows = omega (arith, g.rows, written_out w); text = omega (arith, g.text, written_lits w) })
 
 pub fits_larger : {p : Place} {e f : E} {o t : List ℕ} → Larger e f → Fits p f o t → Fits p e o t
 fits_larger l g = record { rows = omega (arith, l.rows, g.rows); text = omega (arith, l.text, g.text) }

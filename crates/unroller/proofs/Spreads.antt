@@ -1,4 +1,5 @@
 -- The items of a repeat: laid one after another, then nested; and whether they fit. Assumes nothing.
+use Rattle.std.specs.Prelude.{None, Option, Some}
 use mathlib.Core.Path.{◌≡◌, refl, sym, ap, ◌∙◌}
 use mathlib.Core.List.{List, [], ◌∷◌, ◌++◌, append-nil}
 use Prim.Native.Nat.{ℕ, ◌+◌, ◌-◌, ◌*◌, ◌/◌, ◌^◌, ◌≤◌, ◌<◌}
@@ -11,8 +12,6 @@ use Rattle.grammar.specs.Rows.{Span, flat}
 use Rattle.grammar.specs.Text.{text_of, packed}
 use Rattle.grammar.specs.Steps.{nest}
 use Rattle.writing.specs.declared.Place.{Place}
-use Rattle.writing.specs.declared.Wrote.{Wrote}
-use Rattle.writing.specs.declared.Wrote.TheVariants.{Done, Full}
 use Rattle.writing.specs.Writes.{stored, Areas, Fit, Fits, Written, Answer}
 use Rattle.writing.proofs.Puts.{put_out, put_lits}
 use Rattle.writing.proofs.Trees.{size_packed, written_out}
@@ -20,11 +19,12 @@ use Rattle.chains.specs.Chains.{chain, sizes, flats, texts, packs, Forest, Closa
 use Rattle.chains.proofs.Trees.{nest_chain, packed_chain, text_chain, sizes_append, flats_append, texts_append, packs_append, sizes_packs, length_packs}
 use Rattle.chains.proofs.Closes.{forest_stored, chain_stored}
 use Rattle.unroller.specs.declared.Item.{Item}
+use Rattle.unroller.specs.declared.Item.TheVariants.{Once, Maybe, Many}
 use Rattle.unroller.specs.declared.Items.{Items}
 use Rattle.unroller.specs.Items.{item_of, items_of, count_of, Holds}
-use Rattle.unroller.specs.Copies.{Source, Repeatable, Layable, Finishable, Laid}
+use Rattle.unroller.specs.Copies.{Source, Repeatable, Layable, Laid}
 use Rattle.unroller.proofs.Sizes.{weigh, nest_size, weigh_append, weigh_replicate, bytes_of, nest_bytes, bytes_append, bytes_replicate}
-use Rattle.unroller.proofs.Lays.{source_rows, written_source, source_put, item_size, item_text, item_source, sizes_replicate, texts_replicate}
+use Rattle.unroller.proofs.Lays.{source_rows, written_source, source_put, item_size, item_text, item_source, laid_append, written_laid, sizes_replicate, texts_replicate}
 
 -- ---- laying
 
@@ -41,19 +41,16 @@ pub record Pending (p q at : Place) (es : List E) (e : E) (o t : List ℕ) : Typ
   pub areas : Areas o t
 
 -- behind the first item
-pub ahead_first : (i : Item) {p q a : Place} {e : E} {o o₁ t : List ℕ} → Source p q e o t → Written a p (item_of i e) o o₁ t t → Ahead p q a e o₁ t
+ahead_first : (i : Item) {p q a : Place} {e : E} {o o₁ t : List ℕ} → Source p q e o t → Written a p (item_of i e) o o₁ t t → Ahead p q a e o₁ t
 ahead_first i {p} {q} {a} {e} s w =
     let k : q.text ≡ a.text = omega (arith, s.text, w.text, ap length (item_text i e)) in
     record { source = item_source i s.rows k (written_source w); behind = omega (arith, s.rows, w.rows, item_size i e); beyond = omega arith }
 
-pub ahead_next : {p q at b : Place} {e : E} (es : List E) {o o' t t' : List ℕ} → Ahead p q at e o t → Laid b at es o o' t t' → Ahead p q b e o' t'
+ahead_next : {p q at b : Place} {e : E} (es : List E) {o o' t t' : List ℕ} → Ahead p q at e o t → Laid b at es o o' t t' → Ahead p q b e o' t'
 ahead_next es h w = record { source = source_put h.source h.behind h.beyond w; behind = omega (arith, h.behind, w.rows); beyond = omega (arith, h.beyond, w.text) }
 
 module _ {p q : Place} {n : Items} {o t : List ℕ} (c : Layable p q n o t) (i : Item) (es : List E) (f : items_of n c.tree ≡ item_of i c.tree ∷ es) where
-  pub lay_finish : Finishable p q i o
-  lay_finish = record { least = omega (arith, c.source.rows); most = omega (arith, c.source.rows, c.fits.rows, ap sizes f, item_size i c.tree); words = c.areas.words }
-
-  pub pending_first : {a : Place} {o₁ : List ℕ} → Written a p (item_of i c.tree) o o₁ t t → Pending p q a es c.tree o₁ t
+  pending_first : {a : Place} {o₁ : List ℕ} → Written a p (item_of i c.tree) o o₁ t t → Pending p q a es c.tree o₁ t
   pending_first w = record {
     ahead = ahead_first i c.source w;
     fits = record {
@@ -64,7 +61,7 @@ module _ {p q : Place} {n : Items} {o t : List ℕ} (c : Layable p q n o t) (i :
   }
 
 module _ {p q at : Place} (es fs : List E) {e : E} {o t : List ℕ} (h : Pending p q at (es ++ fs) e o t) where
-  pub pending_next : {b : Place} {o' t' : List ℕ} → Laid b at es o o' t t' → Pending p q b fs e o' t'
+  pending_next : {b : Place} {o' t' : List ℕ} → Laid b at es o o' t t' → Pending p q b fs e o' t'
   pending_next w = record {
     ahead = ahead_next es h.ahead w;
     fits = record {
@@ -74,7 +71,7 @@ module _ {p q at : Place} (es fs : List E) {e : E} {o t : List ℕ} (h : Pending
     areas = record { words = omega (arith, h.areas.words, put_out w); bytes = omega (arith, h.areas.bytes, put_lits w) };
   }
 
-  pub pending_repeat : (k : ℕ) (i : Item) → es ≡ replicate k (item_of i e) → Repeatable p q at k i o t
+  pending_repeat : (k : ℕ) (i : Item) → es ≡ replicate k (item_of i e) → Repeatable p q at k i o t
   pending_repeat k i r =
       let x = item_of i e in
       let b : k * length (text_of x) ≡ k * length (text_of e) = ap (λ (u : List ℕ). k * length u) (item_text i e) in
@@ -89,6 +86,50 @@ module _ {p q at : Place} (es fs : List E) {e : E} {o t : List ℕ} (h : Pending
         };
         areas = h.areas;
       }
+
+-- after the first item, whose others are m: what the three runs of items ask, one after another
+module _ {p q a : Place} {n : Items} {o o₁ t : List ℕ} (c : Layable p q n o t) (i : Item) (m : Items) (f : items_of n c.tree ≡ item_of i c.tree ∷ items_of m c.tree) (w : Written a p (item_of i c.tree) o o₁ t t) where
+  abbrev plains : List E
+  plains = replicate m.plain c.tree
+
+  abbrev opts : List E
+  opts = replicate m.opts (un Opt c.tree)
+
+  abbrev reps : List E
+  reps = replicate m.reps (un Rep c.tree)
+
+  left₁ : Pending p q a (plains ++ (opts ++ reps)) c.tree o₁ t
+  left₁ = pending_first c i (items_of m c.tree) f w
+
+  pub run_plain : Repeatable p q a m.plain Once o₁ t
+  run_plain = pending_repeat plains (opts ++ reps) left₁ m.plain Once refl
+
+  module _ {b : Place} {o₂ t₂ : List ℕ} (x : Source p q c.tree o₁ t → Laid b a plains o₁ o₂ t t₂) where
+    left₂ : Pending p q b (opts ++ reps) c.tree o₂ t₂
+    left₂ = pending_next plains (opts ++ reps) left₁ (x left₁.ahead.source)
+
+    pub run_opts : Repeatable p q b m.opts Maybe o₂ t₂
+    run_opts = pending_repeat opts reps left₂ m.opts Maybe refl
+
+    module _ {d : Place} {o₃ t₃ : List ℕ} (y : Source p q c.tree o₂ t₂ → Laid d b opts o₂ o₃ t₂ t₃) where
+      left₃ : Pending p q d (reps ++ []) c.tree o₃ t₃
+      left₃ = rw (append-nil reps) (pending_next opts reps left₂ (y left₂.ahead.source))
+
+      pub run_reps : Repeatable p q d m.reps Many o₃ t₃
+      run_reps = pending_repeat reps [] left₃ m.reps Many refl
+
+-- the runs stand one after another
+pub runs_laid : {p q a b d z : Place} (n m : Items) (i : Item) {e : E} {o o₁ o₂ o₃ o₄ t t₂ t₃ t₄ : List ℕ} → items_of n e ≡ item_of i e ∷ items_of m e → Source p q e o t → Written a p (item_of i e) o o₁ t t → (Source p q e o₁ t → Laid b a (replicate m.plain e) o₁ o₂ t t₂) → (Source p q e o₂ t₂ → Laid d b (replicate m.opts (un Opt e)) o₂ o₃ t₂ t₃) → (Source p q e o₃ t₃ → Laid z d (replicate m.reps (un Rep e)) o₃ o₄ t₃ t₄) → Laid z p (items_of n e) o o₄ t t₄
+runs_laid n m i {e = e} f s w x y z =
+    let xs = replicate m.plain e in
+    let ys = replicate m.opts (un Opt e) in
+    let zs = replicate m.reps (un Rep e) in
+    let h₁ = ahead_first i s w in
+    let v₁ = x h₁.source in
+    let h₂ = ahead_next xs h₁ v₁ in
+    let v₂ = y h₂.source in
+    let v₃ = z (ahead_next ys h₂ v₂).source in
+    rw f (laid_append (item_of i e ∷ []) (items_of m e) (written_laid w) (laid_append xs (ys ++ zs) v₁ (laid_append ys zs v₂ v₃)))
 
 -- ---- how large the items are
 
@@ -234,17 +275,17 @@ module _ {s p : Place} (es : List E) {o o₁ t t₁ : List ℕ} (l : Laid s p es
   nest_text : text_of (nest es) ≡ texts es
   nest_text = ap text_of nest_is ∙ text_chain Seq v.init v.last ∙ sym (ap texts v.is ∙ texts_append v.init (v.last ∷ []) ∙ ap (λ (u : List ℕ). texts v.init ++ u) (append-nil (text_of v.last)))
 
-  nested : (a : Wrote) (o₂ : List ℕ) → ClosedAnswer a s Seq xs r o₁ o₂ → Answer a p (nest es) o o₂ t t₁
-  nested (Done q) o₂ c = record {
+  nested : (a : Option Place) (o₂ : List ℕ) → ClosedAnswer a s Seq xs r o₁ o₂ → Answer a p (nest es) o o₂ t t₁
+  nested (Some q) o₂ c = record {
     fits = f;
     rows = omega (arith, c.rows, l.rows, nest_weigh es h, weigh_sizes es, count refl, h);
     text = omega (arith, c.text, l.text, nest_weighs es h, bytes_texts es);
     words = chain_stored o o₁ p.rows s.rows xs r laid_words laid_rows laid_room refl c ∙ rw (nest_is, packed_chain p.text Seq v.init v.last);
     bytes = l.bytes ∙ rw nest_text;
   }
-  nested Full o₂ c = absurd c
+  nested None o₂ c = absurd c
 
-  pub nested_answer : (a : Wrote) {n : ℕ} (o₂ : List ℕ) → n ≡ length es - 1
+  pub nested_answer : (a : Option Place) {n : ℕ} (o₂ : List ℕ) → n ≡ length es - 1
       → ((b : Bin) (before : List ℕ) (ys : List (Expr Span)) (z : Expr Span) → 8 ≡ bin_kind b → Forest o₁ s.rows before ys z → length ys ≡ n → ClosedAnswer a s b ys z o₁ o₂)
       → Answer a p (nest es) o o₂ t t₁
   nested_answer a o₂ c k = nested a o₂ (k Seq before xs r refl forest (count c))

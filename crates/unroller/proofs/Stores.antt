@@ -3,7 +3,7 @@ use mathlib.Core.Path.{◌≡◌, refl, sym, ap, ◌∙◌}
 use mathlib.Core.List.{List, [], ◌∷◌, ◌++◌, append_assoc}
 use Prim.Native.Nat.{ℕ, zero, suc, ◌+◌, ◌*◌, ◌≤◌, ◌<◌}
 use native.Mathlib.Omega.{arith}
-use lib.ListN.{length, get_or, take, drop, set, take-append-drop, length-append}
+use lib.ListN.{length, get_or, take, drop, set, take-append-drop, length-append, length-drop}
 use lib.Seq.{sets-eq, take-set-le, drop-set-lt, take_at, drop_at, take-take, get_or-take, drop-drop, length-take-le}
 use Rattle.grammar.specs.Numbers.{row_width}
 use Rattle.grammar.specs.Tree.{Expr, size}
@@ -63,6 +63,14 @@ pub stored_over : (o u v : List ℕ) (i : ℕ) → length u ≤ length v → i +
 stored_over o u v i h l =
     stored_parts (stored o i u) v i (omega (arith, length_stored o i u))
     ∙ (rw (stored_front o u i i (omega arith), stored_rest o u i (i + length v) (omega arith)) (sym (stored_parts o v i l)))
+
+-- a part of the front, copied behind it, where the area is split
+pub stored_split : (o : List ℕ) (i x n : ℕ) → x + n ≤ i → i + n ≤ length o → take i o ++ stored (drop i o) 0 (bytes_at (take i o) (x, n)) ≡ stored o i (bytes_at o (x, n))
+stored_split o i x n h l =
+    let v = bytes_at o (x, n) in
+    let e : length v ≡ n = length_part o x n (omega arith) in
+    let z : 0 + length v ≡ length v = omega arith in
+    rw (part_front o x n i h, stored_parts (drop i o) v 0 (simp length-drop (omega arith)), z, drop-drop (length v) i o) (sym (stored_parts o v i (omega arith)))
 
 -- a tree whose rows are before the run stands as it did
 pub at_front : {o o' : List ℕ} {i : ℕ} {r : Expr Span} → take (i * row_width + row_width) o' ≡ take (i * row_width + row_width) o → At o i r → At o' i r

@@ -1,11 +1,10 @@
 -- A run of nodes with one child each, unrolled over what stands below it. Assumes nothing.
-use Rattle.std.specs.Prelude.{◌≡◌, List, [], ◌∷◌, ℕ, ◌+◌, length}
+use Rattle.std.specs.Prelude.{◌≡◌, List, [], ◌∷◌, ℕ, ◌+◌, length, Option}
 use Rattle.grammar.specs.Tree.{Un, Expr, E}
 use Rattle.grammar.specs.Rows.{Span}
 use Rattle.grammar.specs.Steps.{unrolled}
 use Rattle.rows.specs.Rows.{At}
 use Rattle.writing.specs.declared.Place.{Place}
-use Rattle.writing.specs.declared.Wrote.{Wrote}
 use Rattle.writing.specs.Writes.{Areas, Written, Answer}
 use Rattle.chains.specs.Runs.{ups}
 
@@ -27,5 +26,5 @@ pub record Standing (q p : Place) (o t : List ℕ) : Type 0 where
   pub areas : Areas o t
 
 -- whatever tree was written from p to q, the nodes us stand over it, unrolled
-abbrev pub ClimbedAnswer : Wrote → (q p : Place) → List Un → (o o' t t' : List ℕ) → Type 0
+abbrev pub ClimbedAnswer : Option Place → (q p : Place) → List Un → (o o' t t' : List ℕ) → Type 0
 ClimbedAnswer a q p us o o' t t' = (e : E) (o₀ t₀ : List ℕ) → Written q p e o₀ o t₀ t → Answer a p (climbed us e) o₀ o' t₀ t'

@@ -16,9 +16,9 @@ ghost use Rattle.unroller.specs.Items.{Counted, item_of, items_of, count_of, ite
 ghost use Rattle.unroller.specs.Climbs.{RunOver, Standing, ClimbedAnswer};
 ghost use Rattle.unroller.specs.Copies.{moved_row, moved, Movable, Source, Copyable, Repeatable, Finishable, Layable, Spreadable, Headed, Laid};
 
-use grammar::{OPT, REP, REP_EXACT, REP_MAX, REP_MIN, REP_ONCE, ROW_WIDTH, SEQ, SIZE, SKIP, X, Y};
-use rows::{Lookup, Shape};
-use writing::{Place, Wrote};
+use grammar::{OPT, REP, REP_EXACT, REP_MAX, REP_MIN, REP_ONCE, ROW_WIDTH, SEQ, SKIP};
+use rows::Shape;
+use writing::Place;
 
 // An item of an unrolled repeat of e: e, e? or e*.
 #[derive(Clone, Copy)]
@@ -54,25 +54,15 @@ fn counts(plain: usize, opts: usize, reps: usize) -> Items
 fn items_for(kind: u32, x: u32, y: u32) -> Items
     ensures { result ≡ items_for kind x y }
 {
-    if kind == REP_ONCE {
-        return counts(1, 0, 1);
-    }
     let n = x as usize;
-    if kind == REP_EXACT {
-        return counts(n, 0, 0);
-    }
-    if kind == REP_MIN {
-        return counts(n, 0, 1);
-    }
-    if kind == REP_MAX {
-        return counts(0, n, 0);
-    }
     let m = y as usize;
-    if n < m {
-        counts(n, m - n, 0)
-    } else {
+    match kind {
+        REP_ONCE => counts(1, 0, 1),
+        REP_EXACT => counts(n, 0, 0),
+        REP_MIN => counts(n, 0, 1),
+        REP_MAX => counts(0, n, 0),
         // a minimum above the maximum counts as the maximum
-        counts(m, 0, 0)
+        _ => counts(n.min(m), m.saturating_sub(n), 0),
     }
 }
 
@@ -81,27 +71,30 @@ fn first_of(n: Items) -> Split
     requires { 1 ≤ count_of n }
     ensures { (e : E) → items_of n e ≡ item_of result.item e ∷ items_of result.rest e }
 {
-    let plain = n.plain;
-    let opts = n.opts;
-    let reps = n.reps;
-    if 0 < plain {
-        let rest = counts(plain - 1, opts, reps);
+    if 0 < n.plain {
         return Split {
             item: Item::Once,
-            rest,
+            rest: Items {
+                plain: n.plain - 1,
+                ..n
+            },
         };
     }
-    if 0 < opts {
-        let rest = counts(0, opts - 1, reps);
+    if 0 < n.opts {
         return Split {
             item: Item::Maybe,
-            rest,
+            rest: Items {
+                opts: n.opts - 1,
+                ..n
+            },
         };
     }
-    let rest = counts(0, 0, reps - 1);
     Split {
         item: Item::Many,
-        rest,
+        rest: Items {
+            reps: n.reps - 1,
+            ..n
+        },
     }
 }
 
@@ -112,10 +105,7 @@ fn hold(rows: usize, text: usize, s: usize, b: usize, n: Items) -> bool
 {
     let marked = n.opts + n.reps;
     let all = n.plain + marked;
-    if text < all * b {
-        return false;
-    }
-    n.plain * (s + 1) + marked * (s + 2) <= rows + 1
+    all * b <= text && n.plain * (s + 1) + marked * (s + 2) <= rows + 1
 }
 
 // Copies n bytes of the text from x to `at`, further on in it.
@@ -123,11 +113,8 @@ fn copy_on(lits: &mut [u8], x: usize, n: usize, at: usize)
     requires { (x + n ≤ at) × (at + n ≤ length lits.old) }
     ensures { lits.new ≡ stored lits.old at (bytes_at lits.old (x, n)) }
 {
-    let mut i = 0;
-    while i < n {
-        lits[at + i] = lits[x + i];
-        i += 1;
-    }
+    let (front, back) = lits.split_at_mut(at);
+    writing::copy_bytes(front, x, n, back, 0);
 }
 
 // Copies row i to row j; an offset moves by d.
@@ -136,14 +123,12 @@ fn move_row(out: &mut [u32], i: usize, j: usize, d: u32)
     requires movable { Movable d out.old i }
     ensures { out.new ≡ stored out.old (j * row_width) (moved_row d out.old i) }
 {
-    let Lookup::Row { kind, x, y, size } = rows::row_at(out, i) else {
-        return;
+    let row = rows::row_at(out, i).unwrap();
+    let x = match rows::shape_of(row.kind) {
+        Shape::Lit => row.x + d,
+        _ => row.x,
     };
-    if let Shape::Lit = rows::shape_of(kind) {
-        writing::set_row(out, j, kind, x + d, y, size);
-    } else {
-        writing::set_row(out, j, kind, x, y, size);
-    }
+    writing::set_row(out, j, row.kind, x, row.y, row.size);
 }
 
 // Copies n rows from row i to row j, further on; offsets move by d.
@@ -152,10 +137,8 @@ fn move_rows(out: &mut [u32], i: usize, n: usize, j: usize, d: u32)
     requires by_index { (k : ℕ) → k < n → Movable d out.old (i + k) }
     ensures { out.new ≡ stored out.old (j * row_width) (moved d out.old i n) }
 {
-    let mut k = 0;
-    while k < n {
+    for k in 0..n {
         move_row(out, i + k, j + k, d);
-        k += 1;
     }
 }
 
@@ -227,10 +210,8 @@ fn repeat(
     ensures { (e : E) → Source p q e out.old lits.old → Laid result at (replicate n (item_of item e)) out.old out.new lits.old lits.new }
 {
     let mut s = at;
-    let mut i = 0;
-    while i < n {
+    for i in 0..n {
         s = next(out, lits, p, q, s, item);
-        i += 1;
     }
     s
 }
@@ -250,7 +231,7 @@ fn lay(out: &mut [u32], lits: &mut [u8], p: Place, q: Place, n: Items) -> Place
 }
 
 // Writes the nested items of a repeat of the tree that stands from p to q, from p on.
-fn spread(out: &mut [u32], lits: &mut [u8], p: Place, q: Place, n: Items) -> Wrote
+fn spread(out: &mut [u32], lits: &mut [u8], p: Place, q: Place, n: Items) -> Option<Place>
     requires { Spreadable p q n out.old lits.old }
     ensures { (e : E) → Source p q e out.old lits.old → Answer result p (nest (items_of n e)) out.old out.new lits.old lits.new }
 {
@@ -264,7 +245,7 @@ fn spread(out: &mut [u32], lits: &mut [u8], p: Place, q: Place, n: Items) -> Wro
         q.text - x,
         n,
     ) {
-        return Wrote::Full;
+        return None;
     }
     let s = lay(out, lits, p, q, n);
     let others = n.plain + (n.opts + n.reps) - 1;
@@ -275,14 +256,19 @@ fn spread(out: &mut [u32], lits: &mut [u8], p: Place, q: Place, n: Items) -> Wro
 fn is_repeat(kind: u32) -> bool
     ensures { Tells result (IsRepeat kind) }
 {
-    if kind < REP_ONCE {
-        return false;
-    }
-    kind < SKIP
+    REP_ONCE <= kind && kind < SKIP
 }
 
 // Writes the node of kind, x and y over the tree that stands from p to q, unrolled.
-fn node(out: &mut [u32], lits: &mut [u8], p: Place, q: Place, kind: u32, x: u32, y: u32) -> Wrote
+fn node(
+    out: &mut [u32],
+    lits: &mut [u8],
+    p: Place,
+    q: Place,
+    kind: u32,
+    x: u32,
+    y: u32,
+) -> Option<Place>
     requires { Headed p q (kind, x, y) out.old lits.old }
     ensures { (u : Un) (e : E) → (kind, x, y) ≡ un_head u → Source p q e out.old lits.old → Answer result p (unrolled u e) out.old out.new lits.old lits.new }
 {
@@ -290,11 +276,12 @@ fn node(out: &mut [u32], lits: &mut [u8], p: Place, q: Place, kind: u32, x: u32,
         let n = items_for(kind, x, y);
         return spread(out, lits, p, q, n);
     }
-    let size = q.rows - p.rows + 1;
-    writing::put_row(out, q, kind, x, y, size as u32)
+    writing::put_over(out, p, q, kind, x, y)
 }
 
-// Writes the rows after `base` up to `root`, which have one child each, over the tree that stands from p to q, unrolled.
+// Writes the rows after `base` up to `root`, which have one child each, over the tree that stands from p to q, unrolled. Never inlined: the
+// recursion's frame stays small.
+#[inline(never)]
 fn climb(
     rows: &[u32],
     base: usize,
@@ -303,23 +290,18 @@ fn climb(
     lits: &mut [u8],
     p: Place,
     q: Place,
-) -> Wrote
+) -> Option<Place>
     requires counted { Counted rows.now root }
     requires run_over { RunOver rows.now base root }
     requires standing { Standing q p out.old lits.old }
     ensures { (r : Expr Span) → At rows.now root r → ClimbedAnswer result q p (ups r) out.old out.new lits.old lits.new }
 {
     let mut s = q;
-    let mut i = base;
-    while i < root {
-        i += 1;
-        let at = i * ROW_WIDTH;
-        let Wrote::Done(z) = node(out, lits, p, s, rows[at], rows[at + X], rows[at + Y]) else {
-            return Wrote::Full;
-        };
-        s = z;
+    for i in base..root {
+        let row = rows::row_at(rows, i + 1)?;
+        s = node(out, lits, p, s, row.kind, row.x, row.y)?;
     }
-    Wrote::Done(s)
+    Some(s)
 }
 
 // Writes the subtree of row `root`, which has not one child, unrolled node by node, at p.
@@ -331,33 +313,26 @@ fn bottom(
     out: &mut [u32],
     lits: &mut [u8],
     p: Place,
-) -> Wrote
+) -> Option<Place>
     requires inside { Inside rows.now (length text.now) }
     requires counted { Counted rows.now root }
     requires room { Room p out.old lits.old }
     requires fact { shape_of (kind_at rows.now root) ≡ One → ⊥ }
     ensures { (r : Expr Span) → At rows.now root r → Answer result p (unroll (resolve text.now r)) out.old out.new lits.old lits.new }
 {
-    let at = root * ROW_WIDTH;
-    let kind = rows[at];
-    let x = rows[at + X];
-    let y = rows[at + Y];
-    match rows::shape_of(kind) {
-        Shape::Lit => writing::put_lit(text, rows::wide(x), rows::wide(y), kind, out, lits, p),
-        Shape::Num => writing::put_row(out, p, kind, x, y, 1),
+    let row = rows::row_at(rows, root)?;
+    match rows::shape_of(row.kind) {
+        Shape::Lit => {
+            writing::put_lit(text, row.x as usize, row.y as usize, row.kind, out, lits, p)
+        }
+        Shape::Num => writing::put_row(out, p, row.kind, row.x, row.y, 1),
         Shape::Skips => writing::copy(rows, text, root, out, lits, p),
-        Shape::One => Wrote::Full,
+        Shape::One => None,
         Shape::Two => {
-            let right = root - 1;
-            let left = right - rows::wide(rows[right * ROW_WIDTH + SIZE]);
-            let Wrote::Done(q) = unroll(rows, text, left, out, lits, p) else {
-                return Wrote::Full;
-            };
-            let Wrote::Done(s) = unroll(rows, text, right, out, lits, q) else {
-                return Wrote::Full;
-            };
-            let size = s.rows - p.rows + 1;
-            writing::put_row(out, s, kind, x, y, size as u32)
+            let left = rows::left_of(rows, root);
+            let q = unroll(rows, text, left, out, lits, p)?;
+            let s = unroll(rows, text, root - 1, out, lits, q)?;
+            writing::put_over(out, p, s, row.kind, row.x, row.y)
         }
     }
 }
@@ -371,7 +346,7 @@ pub fn unroll(
     out: &mut [u32],
     lits: &mut [u8],
     p: Place,
-) -> Wrote
+) -> Option<Place>
     requires inside { Inside rows.now (length text.now) }
     requires counted { Counted rows.now root }
     requires room { Room p out.old lits.old }
@@ -379,8 +354,6 @@ pub fn unroll(
 {
     // no call for each row of a run: a host's stack is short
     let base = chains::below(rows, root);
-    let Wrote::Done(q) = bottom(rows, text, base, out, lits, p) else {
-        return Wrote::Full;
-    };
+    let q = bottom(rows, text, base, out, lits, p)?;
     climb(rows, base, root, out, lits, p, q)
 }

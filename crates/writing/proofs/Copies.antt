@@ -1,4 +1,5 @@
 -- A run of rows, copied one by one, is the packed tree that stands in it. Assumes nothing.
+use Rattle.std.specs.Prelude.{Option}
 use mathlib.Core.Path.{◌≡◌, refl, sym, ◌∙◌}
 use mathlib.Core.List.{List, [], ◌∷◌, ◌++◌, append_assoc, append-nil, map}
 use Prim.Native.Nat.{ℕ, zero, suc, ◌+◌, ◌-◌, ◌*◌}
@@ -17,7 +18,6 @@ use Rattle.rows.proofs.Laws.{root, Found, root_found, at_un, at_left_lem, at_rig
 use Rattle.rows.proofs.Cells.{lit_shape, fixed_shape, un_shape, bin_shape, skip_shape, size_resolve}
 use Rattle.writing.proofs.Trees.{length_spans, size_packed, put_answer}
 use Rattle.writing.specs.declared.Place.{Place}
-use Rattle.writing.specs.declared.Wrote.{Wrote}
 use Rattle.writing.specs.Writes.{PutAnswer, StrsAnswer, Answer}
 use Rattle.writing.specs.Copies.{text_by, words_by, row_text, row_words, run_text, run_words}
 
@@ -164,7 +164,7 @@ module _ (t : Bytes) {w : List ℕ} where
 -- ---- what the copies of rows answer
 
 -- all rows of a tree, and of a Skip's strings
-module _ (t : Bytes) {w : List ℕ} (a : Wrote) (p : Place) (o o' b b' : List ℕ) where
+module _ (t : Bytes) {w : List ℕ} (a : Option Place) (p : Place) (o o' b b' : List ℕ) where
   pub tree_copied : {i : ℕ} (n : ℕ) (r : Expr Span) → At w i r → n ≡ size r → PutAnswer a p n (run_words p.text t w (i + 1 - n) n) (run_text t w (i + 1 - n) n) o o' b b' → Answer a p (resolve t r) o o' b b'
   tree_copied {i} n r s e h =
       let l : i + 1 ≡ i + 1 - n + size r = omega (arith, (root s).most) in

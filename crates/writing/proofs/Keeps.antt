@@ -1,4 +1,5 @@
 -- A tree that stands at the end of what was written: how it comes there, and how it is read again. Assumes nothing.
+use Rattle.std.specs.Prelude.{None, Option, Some, IsSome}
 use mathlib.Core.Path.{◌≡◌, refl, sym, ap, subst, ◌∙◌}
 use mathlib.Core.List.{List, [], ◌∷◌, ◌++◌, append_assoc, map}
 use Prim.Native.Nat.{ℕ, ◌+◌, ◌-◌, ◌*◌, ◌/◌, ◌≤◌, ◌<◌}
@@ -14,8 +15,6 @@ use Rattle.rows.specs.Rows.{At, AllWithin, Within, StandsIn}
 use Rattle.rows.proofs.Laws.{size_pos}
 use Rattle.rows.proofs.Views.{OneView, TwoView, left_at, at_unique}
 use Rattle.writing.specs.declared.Place.{Place}
-use Rattle.writing.specs.declared.Wrote.{Wrote}
-use Rattle.writing.specs.declared.Wrote.TheVariants.{Done, Full}
 use Rattle.writing.specs.Writes.{Areas, Room, RowPut, Fits, Written, Answer}
 use Rattle.writing.specs.Keeps.{Kept, KeptAnswer, Ready}
 use Rattle.writing.proofs.Runs.{take_stored, take_front}
@@ -42,16 +41,20 @@ written_kept {q} {p} {e} {o} {o'} {t} {t'} w = record {
 }
 
 -- an exact answer where the tree fits
-pub answer_kept : (a : Wrote) (p : Place) (e : E) (o o' t t' : List ℕ) → Fits p e o t → Answer a p e o o' t t' → KeptAnswer a p e o o' t t'
-answer_kept (Done q) p e o o' t t' f w = written_kept w
-answer_kept Full p e o o' t t' f n = n f
+pub answer_kept : (a : Option Place) (p : Place) (e : E) (o o' t t' : List ℕ) → Fits p e o t → Answer a p e o o' t t' → KeptAnswer a p e o o' t t'
+answer_kept (Some q) p e o o' t t' f w = written_kept w
+answer_kept None p e o o' t t' f n = n f
 
 -- an answer that is known
-pub kept_done : {a : Wrote} {q : Place} (p : Place) (e : E) (o o' t t' : List ℕ) → a ≡ Done q → KeptAnswer a p e o o' t t' → Kept q p e o o' t t'
-kept_done p e o o' t t' h w = subst (λ (z : Wrote). KeptAnswer z p e o o' t t') h w
+pub kept_done : {a : Option Place} {q : Place} (p : Place) (e : E) (o o' t t' : List ℕ) → a ≡ Some q → KeptAnswer a p e o o' t t' → Kept q p e o o' t t'
+kept_done p e o o' t t' h w = subst (λ (z : Option Place). KeptAnswer z p e o o' t t') h w
 
-pub kept_full : {a : Wrote} (p : Place) (e : E) (o o' t t' : List ℕ) → a ≡ Full → KeptAnswer a p e o o' t t' → ⊥
-kept_full p e o o' t t' h w = subst (λ (z : Wrote). KeptAnswer z p e o o' t t') h w
+pub kept_full : {a : Option Place} (p : Place) (e : E) (o o' t t' : List ℕ) → a ≡ None → KeptAnswer a p e o o' t t' → ⊥
+kept_full p e o o' t t' h w = subst (λ (z : Option Place). KeptAnswer z p e o o' t t') h w
+
+pub kept_some : (a : Option Place) (p : Place) (e : E) (o o' t t' : List ℕ) → KeptAnswer a p e o o' t t' → IsSome a
+kept_some (Some q) p e o o' t t' w = refl
+kept_some None p e o o' t t' w = absurd w
 
 -- the children of a tree that was read, and fits, stand ready
 module _ (s : Bytes) {w : List ℕ} {i k x y n : ℕ} {r : Expr Span} {p : Place} {o t : List ℕ} where

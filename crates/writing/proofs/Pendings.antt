@@ -1,4 +1,5 @@
 -- Literals that stand side by side, copied as one. Assumes nothing.
+use Rattle.std.specs.Prelude.{None, Option, Some}
 use mathlib.Core.Path.{◌≡◌, refl, sym, ap, ap₂, subst, ◌∙◌}
 use mathlib.Core.List.{List, [], ◌++◌, append_assoc, append-nil}
 use Prim.Native.Nat.{ℕ, suc, ◌+◌, ◌-◌, ◌*◌, ◌/◌, ◌≤◌, ◌<◌}
@@ -16,10 +17,8 @@ use Rattle.rows.specs.Rows.{kind_at, x_at, y_at, size_at, shape_of}
 use Rattle.rows.proofs.Laws.{Found, length_part}
 use Rattle.writing.specs.declared.Place.{Place}
 use Rattle.writing.specs.declared.Run.{Run}
-use Rattle.writing.specs.declared.Ran.{Ran}
-use Rattle.writing.specs.declared.Ran.TheVariants.{Done, Full}
 use Rattle.writing.specs.Writes.{stored, Put}
-use Rattle.writing.specs.Copies.{row_text, row_words, run_text, run_words, Begins, Runs, Pending, RanAnswer, Moved, MovedAnswer}
+use Rattle.writing.specs.Copies.{row_text, row_words, run_text, run_words, Runs, Pending, RanAnswer, Moved, MovedAnswer}
 use Rattle.writing.proofs.Runs.{length_stored, stored_none, stored_then}
 use Rattle.writing.proofs.Copies.{lit_text, lit_words, other_text, other_words, text_append, text_more, words_more, length_words}
 
@@ -82,17 +81,17 @@ module _ {g : Run} {o : ℕ} {s bs t t' : List ℕ} (p : Pending g o s bs t t') 
     }
 
 -- an answer that is known
-pub ran_done : {a : Ran} {g : Run} (o : ℕ) (s bs t t' : List ℕ) → a ≡ Done g → RanAnswer a o s bs t t' → Pending g o s bs t t'
-ran_done o s bs t t' d h = subst (λ (z : Ran). RanAnswer z o s bs t t') d h
+pub ran_done : {a : Option Run} {g : Run} (o : ℕ) (s bs t t' : List ℕ) → a ≡ Some g → RanAnswer a o s bs t t' → Pending g o s bs t t'
+ran_done o s bs t t' d h = subst (λ (z : Option Run). RanAnswer z o s bs t t') d h
 
-pub ran_full : {a : Ran} (o : ℕ) (s bs t t' : List ℕ) → a ≡ Full → RanAnswer a o s bs t t' → o + length bs ≤ length t → ⊥
-ran_full o s bs t t' d h = subst (λ (z : Ran). RanAnswer z o s bs t t') d h
+pub ran_full : {a : Option Run} (o : ℕ) (s bs t t' : List ℕ) → a ≡ None → RanAnswer a o s bs t t' → o + length bs ≤ length t → ⊥
+ran_full o s bs t t' d h = subst (λ (z : Option Run). RanAnswer z o s bs t t') d h
 
-pub moved_done : {a : Ran} {g : Run} (o : ℕ) (s w : List ℕ) (i j : ℕ) (bs u u' t t' : List ℕ) → a ≡ Done g → MovedAnswer a o s w i j bs u u' t t' → Moved g o s w i j bs u u' t t'
-moved_done o s w i j bs u u' t t' d h = subst (λ (z : Ran). MovedAnswer z o s w i j bs u u' t t') d h
+pub moved_done : {a : Option Run} {g : Run} (o : ℕ) (s w : List ℕ) (i j : ℕ) (bs u u' t t' : List ℕ) → a ≡ Some g → MovedAnswer a o s w i j bs u u' t t' → Moved g o s w i j bs u u' t t'
+moved_done o s w i j bs u u' t t' d h = subst (λ (z : Option Run). MovedAnswer z o s w i j bs u u' t t') d h
 
-pub moved_full : {a : Ran} (o : ℕ) (s w : List ℕ) (i j : ℕ) (bs u u' t t' : List ℕ) → a ≡ Full → MovedAnswer a o s w i j bs u u' t t' → o + length (bs ++ row_text s w i) ≤ length t → ⊥
-moved_full o s w i j bs u u' t t' d h = subst (λ (z : Ran). MovedAnswer z o s w i j bs u u' t t') d h
+pub moved_full : {a : Option Run} (o : ℕ) (s w : List ℕ) (i j : ℕ) (bs u u' t t' : List ℕ) → a ≡ None → MovedAnswer a o s w i j bs u u' t t' → o + length (bs ++ row_text s w i) ≤ length t → ⊥
+moved_full o s w i j bs u u' t t' d h = subst (λ (z : Option Run). MovedAnswer z o s w i j bs u u' t t') d h
 
 -- a row's offset, set after its four words
 offset_set : (l : List ℕ) (i k x y n v : ℕ) → set (stored l i (row (k, x, y) n)) (i + 1) v ≡ stored l i (row (k, v, y) n)
@@ -104,12 +103,12 @@ offset_set l i k x y n v =
     ∙ ap (λ (z : List ℕ). set z (suc (suc (suc i))) n) (set_comm (set c (suc i) x) (suc (suc i)) (suc i) y v (λ e. omega (arith, e)))
     ∙ ap (λ (z : List ℕ). set (set z (suc (suc i)) y) (suc (suc (suc i))) n) (set-set c (suc i) x v)
 
--- the row that begins at word `at`
-pub word_found : (w : List ℕ) (at i : ℕ) → at ≡ i * row_width → Begins at w → Found w i (get_or w at 0) (get_or w (at + 1) 0) (get_or w (at + 2) 0) (get_or w (at + 3) 0)
+-- the words of row i, which begins at word `at`
+pub word_found : (w : List ℕ) (at i : ℕ) → at ≡ i * row_width → i < length w / row_width → Found w i (get_or w at 0) (get_or w (at + 1) 0) (get_or w (at + 2) 0) (get_or w (at + 3) 0)
 unfolding kind_at x_at y_at size_at
 word_found w at i e b =
     record {
-      within = omega (arith, e, b.is, b.within);
+      within = b;
       kind = ap (λ (k : ℕ). get_or w k 0) (sym e);
       x = ap (λ (k : ℕ). get_or w (k + 1) 0) (sym e);
       y = ap (λ (k : ℕ). get_or w (k + 2) 0) (sym e);
@@ -160,11 +159,3 @@ module _ {g : Run} {o : ℕ} {s w : List ℕ} {i j k : ℕ} {u u' t t' : List �
     words = rw (er, et) m.words;
     bytes = rw et (pending_copied m.pending t'' e);
   }
-
--- the same, with k read off the word that comes next
-pub record MovingAt (g : Run) (o : ℕ) (s w : List ℕ) (i n j from to : ℕ) (u u' t t' : List ℕ) : Type 0 where
-  pub count : ℕ
-  pub most : count ≤ n
-  pub source : from ≡ (i + count) * row_width
-  pub target : to ≡ (j + count) * row_width
-  pub moving : Moving g o s w i j count u u' t t'

@@ -1,12 +1,12 @@
 -- Runs of stores, and the front of an area. Assumes nothing.
 use mathlib.Core.Path.{◌≡◌, refl, sym, ap, ◌∙◌}
-use mathlib.Core.List.{List, [], ◌∷◌, ◌++◌}
+use mathlib.Core.List.{List, [], ◌∷◌, ◌++◌, append_assoc}
 use Prim.Native.Nat.{ℕ, suc, ◌+◌, ◌≤◌, ◌<◌}
 use native.Mathlib.Nat.{add-zero, add-suc, suc-add}
 use native.Mathlib.Numerals.{add-one}
 use native.Mathlib.Omega.{arith}
 use lib.ListN.{length, get_or, take, drop, set, length-append, length-take, length-drop}
-use lib.Seq.{sets, sets-eq, length-sets, take-suc, take_at, take-take, length-take-le, get_or-drop}
+use lib.Seq.{sets, sets-eq, drop-drop, length-sets, take-suc, take_at, take-take, length-take-le, get_or-drop}
 use Rattle.grammar.specs.Text.{bytes_at}
 use Rattle.writing.specs.Writes.{stored}
 
@@ -39,6 +39,11 @@ copy_more s d x at i h =
     let l : i < length (drop x s) = simp length-drop (omega arith) in
     let n : at + length (take i (drop x s)) ≡ at + i = simp (length-take, length-drop) (omega arith) in
     rw (add-one, take-suc (drop x s) i 0 l, get_or-drop, ← (sets_append (take i (drop x s)) (get_or s (x + i) 0 ∷ []) d at), n)
+
+-- a part of an area that is copied over
+pub part_stored : (o vs : List ℕ) (i n : ℕ) → length vs ≡ n → i + n ≤ length o → take i o ++ (vs ++ drop n (drop i o)) ≡ stored o i vs
+unfolding stored
+part_stored o vs i n e h = rw (drop-drop, ← e) (sym (append_assoc (take i o) vs _) ∙ sym (sets-eq vs o i (omega (arith, e, h))))
 
 -- the front of an area up to the end of a run: what was before it, and the run
 pub take_stored : (o v : List ℕ) (i n : ℕ) → n ≡ i + length v → n ≤ length o → take n (stored o i v) ≡ take i o ++ v

@@ -1,5 +1,5 @@
 -- A run of rows with its literals packed, whatever trees they are of; literals that stand side by side are copied as one. Assumes nothing.
-use Rattle.std.specs.Prelude.{◌≡◌, List, [], ◌++◌, ℕ, zero, suc, ◌+◌, ◌*◌, ◌/◌, ◌≤◌, ◌<◌, length}
+use Rattle.std.specs.Prelude.{◌≡◌, List, [], ◌++◌, ℕ, zero, suc, ◌+◌, ◌*◌, ◌≤◌, length, None, Option, Some}
 use Rattle.grammar.specs.Numbers.{row_width}
 use Rattle.grammar.specs.Basic.{Bytes}
 use Rattle.grammar.specs.Rows.{row}
@@ -9,8 +9,6 @@ use Rattle.rows.specs.declared.Shape.TheVariants.{Lit, Num, One, Two, Skips}
 use Rattle.rows.specs.Rows.{kind_at, x_at, y_at, size_at, shape_of}
 use Rattle.writing.specs.Writes.{stored}
 use Rattle.writing.specs.declared.Run.{Run}
-use Rattle.writing.specs.declared.Ran.{Ran}
-use Rattle.writing.specs.declared.Ran.TheVariants.{Done, Full}
 
 -- the text of a row: its literal, if it has one
 abbrev pub text_by : Shape → Bytes → ℕ → ℕ → Bytes
@@ -44,12 +42,6 @@ abbrev pub run_words : ℕ → Bytes → List ℕ → ℕ → ℕ → List ℕ
 run_words o t w i zero = []
 run_words o t w i (suc n) = row_words o t w i ++ run_words (o + length (row_text t w i)) t w (i + 1) n
 
--- a row of the words w begins at word `at`
-pub record Begins (at : ℕ) (w : List ℕ) : Type 0 where
-  pub row : ℕ
-  pub is : at ≡ row * row_width
-  pub within : row < length w / row_width
-
 -- a run that lies in the text s, and fits in the area t
 pub record Runs (g : Run) (s t : List ℕ) : Type 0 where
   pub inside : g.from + g.size ≤ length s
@@ -64,15 +56,15 @@ pub record Pending (g : Run) (o : ℕ) (s bs t t' : List ℕ) : Type 0 where
   pub bytes : t' ≡ stored t o copied
 
 -- full only where bs does not fit
-abbrev pub RanAnswer : Ran → ℕ → (s bs t t' : List ℕ) → Type 0
-RanAnswer (Done g) o s bs t t' = Pending g o s bs t t'
-RanAnswer Full o s bs t t' = o + length bs ≤ length t → ⊥
+abbrev pub RanAnswer : Option Run → ℕ → (s bs t t' : List ℕ) → Type 0
+RanAnswer (Some g) o s bs t t' = Pending g o s bs t t'
+RanAnswer None o s bs t t' = o + length bs ≤ length t → ⊥
 
 -- row i of the words w is row j, its literal after bs
 pub record Moved (g : Run) (o : ℕ) (s w : List ℕ) (i j : ℕ) (bs u u' t t' : List ℕ) : Type 0 where
   pub words : u' ≡ stored u (j * row_width) (row_words (o + length bs) s w i)
   pub pending : Pending g o s (bs ++ row_text s w i) t t'
 
-abbrev pub MovedAnswer : Ran → ℕ → (s w : List ℕ) → (i j : ℕ) → (bs u u' t t' : List ℕ) → Type 0
-MovedAnswer (Done g) o s w i j bs u u' t t' = Moved g o s w i j bs u u' t t'
-MovedAnswer Full o s w i j bs u u' t t' = o + length (bs ++ row_text s w i) ≤ length t → ⊥
+abbrev pub MovedAnswer : Option Run → ℕ → (s w : List ℕ) → (i j : ℕ) → (bs u u' t t' : List ℕ) → Type 0
+MovedAnswer (Some g) o s w i j bs u u' t t' = Moved g o s w i j bs u u' t t'
+MovedAnswer None o s w i j bs u u' t t' = o + length (bs ++ row_text s w i) ≤ length t → ⊥

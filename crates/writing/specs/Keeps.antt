@@ -1,5 +1,5 @@
 -- What stands up to a place of two lent areas, whatever they hold past it: for steps that never grow. Assumes nothing.
-use Rattle.std.specs.Prelude.{◌≡◌, List, ◌++◌, ℕ, ◌+◌, ◌*◌, length, take}
+use Rattle.std.specs.Prelude.{◌≡◌, List, ◌++◌, ℕ, ◌+◌, ◌*◌, length, take, None, Option, Some}
 use Rattle.grammar.specs.Numbers.{row_width}
 use Rattle.grammar.specs.Basic.{Bytes}
 use Rattle.grammar.specs.Tree.{Expr, E, size}
@@ -8,8 +8,6 @@ use Rattle.grammar.specs.Text.{resolve, text_of, packed}
 use Rattle.rows.specs.Rows.{At}
 use Rattle.writing.specs.Writes.{Fits}
 use Rattle.writing.specs.declared.Place.{Place}
-use Rattle.writing.specs.declared.Wrote.{Wrote}
-use Rattle.writing.specs.declared.Wrote.TheVariants.{Done, Full}
 
 -- the packed tree e stands from p to q, after what was there
 pub record Kept (q p : Place) (e : E) (o o' t t' : List ℕ) : Type 0 where
@@ -19,9 +17,9 @@ pub record Kept (q p : Place) (e : E) (o o' t t' : List ℕ) : Type 0 where
   pub bytes : take q.text t' ≡ take p.text t ++ text_of e
 
 -- the answer of a step that cannot grow, called where the tree that it reads fits: never full
-abbrev pub KeptAnswer : Wrote → Place → E → (o o' t t' : List ℕ) → Type 0
-KeptAnswer (Done q) p e o o' t t' = Kept q p e o o' t t'
-KeptAnswer Full p e o o' t t' = ⊥
+abbrev pub KeptAnswer : Option Place → Place → E → (o o' t t' : List ℕ) → Type 0
+KeptAnswer (Some q) p e o o' t t' = Kept q p e o o' t t'
+KeptAnswer None p e o o' t t' = ⊥
 
 -- a tree stands at row i of the words w with the text s, and it fits at p of the areas o and t
 pub record Ready (w : List ℕ) (s : Bytes) (i : ℕ) (p : Place) (o t : List ℕ) : Type 0 where

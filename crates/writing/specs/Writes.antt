@@ -1,6 +1,6 @@
 -- What is written at a place of two lent areas, exactly: a row, a literal, a tree. The areas are o and t before, o' and t' after; what they
 -- hold is what fits: o takes a row for each four of its words, t a byte for each of its own. Assumes nothing.
-use Rattle.std.specs.Prelude.{◌≡◌, List, ℕ, ◌+◌, ◌*◌, ◌/◌, ◌^◌, ◌≤◌, ◌<◌, length}
+use Rattle.std.specs.Prelude.{◌≡◌, List, ℕ, ◌+◌, ◌*◌, ◌/◌, ◌^◌, ◌≤◌, ◌<◌, length, None, Option, Some}
 use Rattle.std.proofs.lemmas.List.Edits.{sets}
 use Rattle.grammar.specs.Numbers.{row_width}
 use Rattle.grammar.specs.Basic.{Bytes}
@@ -9,8 +9,6 @@ use Rattle.grammar.specs.Rows.{Span, row, str_rows, flat}
 use Rattle.grammar.specs.Text.{joined, text_of, spans, packed}
 use Rattle.rows.specs.Rows.{AtStrs}
 use Rattle.writing.specs.declared.Place.{Place}
-use Rattle.writing.specs.declared.Wrote.{Wrote}
-use Rattle.writing.specs.declared.Wrote.TheVariants.{Done, Full}
 
 -- the area o with vs stored from index i on, and all else as it was
 unfoldable pub stored : List ℕ → ℕ → List ℕ → List ℕ
@@ -41,9 +39,9 @@ pub record Put (q p : Place) (n : ℕ) (ws bs o o' t t' : List ℕ) : Type 0 whe
   pub bytes : t' ≡ stored t p.text bs
 
 -- done where they fit, and full where they do not
-abbrev pub PutAnswer : Wrote → Place → ℕ → (ws bs o o' t t' : List ℕ) → Type 0
-PutAnswer (Done q) p n ws bs o o' t t' = Put q p n ws bs o o' t t'
-PutAnswer Full p n ws bs o o' t t' = Fit p n (length bs) o t → ⊥
+abbrev pub PutAnswer : Option Place → Place → ℕ → (ws bs o o' t t' : List ℕ) → Type 0
+PutAnswer (Some q) p n ws bs o o' t t' = Put q p n ws bs o o' t t'
+PutAnswer None p n ws bs o o' t t' = Fit p n (length bs) o t → ⊥
 
 -- one row, its head h and its size word n, that leaves the text as it is
 pub record RowPut (q p : Place) (h : Head) (n : ℕ) (o o' : List ℕ) : Type 0 where
@@ -52,16 +50,16 @@ pub record RowPut (q p : Place) (h : Head) (n : ℕ) (o o' : List ℕ) : Type 0 
   pub text : q.text ≡ p.text
   pub words : o' ≡ stored o (p.rows * row_width) (row h n)
 
-abbrev pub RowAnswer : Wrote → Place → Head → ℕ → (o o' : List ℕ) → Type 0
-RowAnswer (Done q) p h n o o' = RowPut q p h n o o'
-RowAnswer Full p h n o o' = p.rows < length o / row_width → ⊥
+abbrev pub RowAnswer : Option Place → Place → Head → ℕ → (o o' : List ℕ) → Type 0
+RowAnswer (Some q) p h n o o' = RowPut q p h n o o'
+RowAnswer None p h n o o' = p.rows < length o / row_width → ⊥
 
 -- a literal of kind k with the bytes s
-abbrev pub LitAnswer : Wrote → Place → ℕ → (s o o' t t' : List ℕ) → Type 0
+abbrev pub LitAnswer : Option Place → Place → ℕ → (s o o' t t' : List ℕ) → Type 0
 LitAnswer a p k s o o' t t' = PutAnswer a p 1 (row (k, p.text, length s) 1) s o o' t t'
 
 -- the Str rows of the strings ss
-abbrev pub StrsAnswer : Wrote → Place → List Bytes → (o o' t t' : List ℕ) → Type 0
+abbrev pub StrsAnswer : Option Place → Place → List Bytes → (o o' t t' : List ℕ) → Type 0
 StrsAnswer a p ss o o' t t' = PutAnswer a p (length ss) (str_rows (spans p.text ss)) (joined ss) o o' t t'
 
 -- k strings stand from row j on
@@ -84,6 +82,6 @@ pub record Written (q p : Place) (e : E) (o o' t t' : List ℕ) : Type 0 where
   pub bytes : t' ≡ stored t p.text (text_of e)
 
 -- the answer of a step that can grow: done where the tree fits, and full where it does not
-abbrev pub Answer : Wrote → Place → E → (o o' t t' : List ℕ) → Type 0
-Answer (Done q) p e o o' t t' = Written q p e o o' t t'
-Answer Full p e o o' t t' = Fits p e o t → ⊥
+abbrev pub Answer : Option Place → Place → E → (o o' t t' : List ℕ) → Type 0
+Answer (Some q) p e o o' t t' = Written q p e o o' t t'
+Answer None p e o o' t t' = Fits p e o t → ⊥

@@ -1,7 +1,7 @@
 // Writing rows and text at a place of two lent areas: a row, a literal, the packed copy of a subtree.
 #![tactic(auto)]
 
-ghost use Rattle.std.specs.Prelude.{◌≡◌, List, map, ◌++◌, ℕ, ◌+◌, ◌*◌, ◌/◌, ◌^◌, ◌≤◌, ◌<◌, length, set};
+ghost use Rattle.std.specs.Prelude.{◌≡◌, List, map, ◌++◌, ℕ, ◌+◌, ◌-◌, ◌*◌, ◌/◌, ◌^◌, ◌≤◌, ◌<◌, length, set};
 ghost use Rattle.grammar.specs.Numbers.{row_width};
 ghost use Rattle.grammar.specs.Tree.{Expr};
 ghost use Rattle.grammar.specs.Rows.{Span, row};
@@ -9,10 +9,10 @@ ghost use Rattle.grammar.specs.Text.{bytes_at, resolve};
 ghost use Rattle.rows.specs.Rows.{Inside, At, AtStrs, Stands};
 ghost use Rattle.writing.specs.Writes.{stored, Areas, Room, PutAnswer, RowAnswer, LitAnswer, StandStrs, StrsAnswer, Answer};
 ghost use Rattle.writing.specs.Keeps.{KeptAnswer, Ready};
-ghost use Rattle.writing.specs.Copies.{run_text, run_words, Begins, Runs, Pending, RanAnswer, MovedAnswer};
+ghost use Rattle.writing.specs.Copies.{run_text, run_words, Runs, Pending, RanAnswer, MovedAnswer};
 
 use grammar::{ROW_WIDTH, SIZE, X, Y};
-use rows::{Lookup, Shape};
+use rows::Shape;
 
 // Where the next row and the next byte of text go.
 #[derive(Clone, Copy)]
@@ -21,23 +21,13 @@ pub struct Place {
     pub text: usize,
 }
 
-// The place after what was written, or Full where it does not fit.
-#[derive(Clone, Copy)]
-pub enum Wrote {
-    Done(Place),
-    Full,
-}
-
 // Copies n bytes of src from x to dst at `at`.
 pub fn copy_bytes(src: &[u8], x: usize, n: usize, dst: &mut [u8], at: usize)
     requires { (x + n ≤ length src.now) × (at + n ≤ length dst.old) }
     ensures { dst.new ≡ stored dst.old at (bytes_at src.now (x, n)) }
 {
-    let mut i = 0;
-    while i < n {
-        dst[at + i] = src[x + i];
-        i += 1;
-    }
+    let end = at + n;
+    dst[at..end].copy_from_slice(rows::part(src, x, n));
 }
 
 // Writes the four words of a row from word `at` on.
@@ -68,19 +58,28 @@ pub fn set_row(out: &mut [u32], i: usize, kind: u32, x: u32, y: u32, size: u32)
 }
 
 // Writes one row at p.
-pub fn put_row(out: &mut [u32], p: Place, kind: u32, x: u32, y: u32, size: u32) -> Wrote
+pub fn put_row(out: &mut [u32], p: Place, kind: u32, x: u32, y: u32, size: u32) -> Option<Place>
     ensures { RowAnswer result p (kind, x, y) size out.old out.new }
 {
     let i = p.rows;
     if i < out.len() / ROW_WIDTH {
         set_row(out, i, kind, x, y, size);
-        Wrote::Done(Place {
+        Some(Place {
             rows: i + 1,
             text: p.text,
         })
     } else {
-        Wrote::Full
+        None
     }
+}
+
+// Writes a row over what stands from p to q.
+pub fn put_over(out: &mut [u32], p: Place, q: Place, kind: u32, x: u32, y: u32) -> Option<Place>
+    requires { (p.rows ≤ q.rows) × (q.rows + 1 < 2 ^ 32) }
+    ensures { RowAnswer result q (kind, x, y) (q.rows - p.rows + 1) out.old out.new }
+{
+    let size = q.rows - p.rows + 1;
+    put_row(out, q, kind, x, y, size as u32)
 }
 
 // Writes a literal's bytes and its row at p.
@@ -92,14 +91,14 @@ pub fn put_lit(
     out: &mut [u32],
     lits: &mut [u8],
     p: Place,
-) -> Wrote
+) -> Option<Place>
     requires n_in_bounds { x + n ≤ length text.now }
     requires room { Room p out.old lits.old }
     ensures { LitAnswer result p kind (bytes_at text.now (x, n)) out.old out.new lits.old lits.new }
 {
     let at = p.text;
     if lits.len() - at < n {
-        return Wrote::Full;
+        return None;
     }
     copy_bytes(text, x, n, lits, at);
     let q = Place {
@@ -117,69 +116,62 @@ struct Run {
     at: usize,
 }
 
-// The run after one more literal, or Full where that does not fit.
-#[derive(Clone, Copy)]
-enum Ran {
-    Done(Run),
-    Full,
-}
-
 // One more literal: part of the run where it stands next to it, else the run is copied and it begins another.
-fn next_lit(text: &[u8], x: usize, n: usize, lits: &mut [u8], g: Run) -> Ran
+fn next_lit(text: &[u8], x: usize, n: usize, lits: &mut [u8], g: Run) -> Option<Run>
     requires n_in_bounds { x + n ≤ length text.now }
     requires runs { Runs g text.now lits.old }
     ensures { (o : ℕ) (bs t : List ℕ) → Pending g o text.now bs t lits.old → RanAnswer result o text.now (bs ++ bytes_at text.now (x, n)) t lits.new }
 {
     let end = g.at + g.size;
     if lits.len() - end < n {
-        return Ran::Full;
+        return None;
     }
     if x == g.from + g.size {
-        return Ran::Done(Run {
+        return Some(Run {
             from: g.from,
             size: g.size + n,
             at: g.at,
         });
     }
     copy_bytes(text, g.from, g.size, lits, g.at);
-    Ran::Done(Run {
+    Some(Run {
         from: x,
         size: n,
         at: end,
     })
 }
 
-// Writes the row that begins at word `from` of a table to word `to` on, its literal packed after the run.
+// Writes row i of a table as row j, its literal packed after the run.
 fn copy_row(
     rows: &[u32],
     text: &[u8],
-    from: usize,
+    i: usize,
     out: &mut [u32],
-    to: usize,
+    j: usize,
     lits: &mut [u8],
     g: Run,
-) -> Ran
-    requires begins { Begins from rows.now }
-    requires begins_2 { Begins to out.old }
+) -> Option<Run>
+    requires i_in_bounds { i < length rows.now / row_width }
+    requires j_in_bounds { j < length out.old / row_width }
     requires inside { Inside rows.now (length text.now) }
     requires runs { Runs g text.now lits.old }
     requires lits_len_bound { length lits.old < 2 ^ 32 }
-    ensures { (i j o : ℕ) (bs t : List ℕ) → from ≡ i * row_width → to ≡ j * row_width → Pending g o text.now bs t lits.old → MovedAnswer result o text.now rows.now i j bs out.old out.new t lits.new }
+    ensures { (o : ℕ) (bs t : List ℕ) → Pending g o text.now bs t lits.old → MovedAnswer result o text.now rows.now i j bs out.old out.new t lits.new }
 {
+    let from = i * ROW_WIDTH;
+    let to = j * ROW_WIDTH;
     let kind = rows[from];
     let x = rows[from + X];
     let y = rows[from + Y];
     set_words(out, to, kind, x, y, rows[from + SIZE]);
     if let Shape::Lit = rows::shape_of(kind) {
         let end = g.at + g.size;
-        let Ran::Done(h) = next_lit(text, x as usize, y as usize, lits, g) else {
-            return Ran::Full;
-        };
+        let h = next_lit(text, x as usize, y as usize, lits, g)?;
         // the four words go as one, and a literal's offset after them
         set_offset(out, to, end as u32);
-        Ran::Done(h)
+        Some(h)
     } else {
-        Ran::Done(g)
+        Some(g)
     }
 }
 
@@ -192,7 +184,7 @@ fn copy_rows(
     out: &mut [u32],
     lits: &mut [u8],
     p: Place,
-) -> Wrote
+) -> Option<Place>
     requires n_in_bounds { i + n ≤ length rows.now / row_width }
     requires inside { Inside rows.now (length text.now) }
     requires room { Room p out.old lits.old }
@@ -200,26 +192,18 @@ fn copy_rows(
 {
     let first = p.rows;
     if out.len() / ROW_WIDTH - first < n {
-        return Wrote::Full;
+        return None;
     }
     let mut g = Run {
         from: 0,
         size: 0,
         at: p.text,
     };
-    let mut from = i * ROW_WIDTH;
-    let mut to = first * ROW_WIDTH;
-    let end = (i + n) * ROW_WIDTH;
-    while from < end {
-        let Ran::Done(h) = copy_row(rows, text, from, out, to, lits, g) else {
-            return Wrote::Full;
-        };
-        g = h;
-        from += ROW_WIDTH;
-        to += ROW_WIDTH;
+    for k in 0..n {
+        g = copy_row(rows, text, i + k, out, first + k, lits, g)?;
     }
     copy_bytes(text, g.from, g.size, lits, g.at);
-    Wrote::Done(Place {
+    Some(Place {
         rows: first + n,
         text: g.at + g.size,
     })
@@ -234,7 +218,7 @@ pub fn copy_strs(
     out: &mut [u32],
     lits: &mut [u8],
     p: Place,
-) -> Wrote
+) -> Option<Place>
     requires inside { Inside rows.now (length text.now) }
     requires stand_strs { StandStrs rows.now first k }
     requires room { Room p out.old lits.old }
@@ -251,22 +235,14 @@ pub fn copy(
     out: &mut [u32],
     lits: &mut [u8],
     p: Place,
-) -> Wrote
+) -> Option<Place>
     requires inside { Inside rows.now (length text.now) }
     requires stands { Stands rows.now root }
     requires room { Room p out.old lits.old }
     ensures { (r : Expr Span) → At rows.now root r → Answer result p (resolve text.now r) out.old out.new lits.old lits.new }
 {
-    let Lookup::Row {
-        kind: _,
-        x: _,
-        y: _,
-        size,
-    } = rows::row_at(rows, root)
-    else {
-        return Wrote::Full;
-    };
-    let n = size as usize;
+    let row = rows::row_at(rows, root)?;
+    let n = row.size as usize;
     copy_rows(rows, text, root + 1 - n, n, out, lits, p)
 }
 
@@ -278,7 +254,7 @@ pub fn keep(
     out: &mut [u32],
     lits: &mut [u8],
     p: Place,
-) -> Wrote
+) -> Option<Place>
     requires inside { Inside rows.now (length text.now) }
     requires ready { Ready rows.now text.now root p out.old lits.old }
     requires areas { Areas out.old lits.old }

@@ -10,11 +10,11 @@ use Rattle.chains.proofs.raise.Goals as goal
 pub loop-i-init : goal.loop-i-init
 loop-i-init c = up_none (omega (arith, c.requires.run))
 
-pub shape_of-out-in_default : goal.shape_of-out-in_default
-shape_of-out-in_default c = c.loop-i.invariant.same
+pub shape_of-out-in_err-row : goal.shape_of-out-in_err-row
+shape_of-out-in_err-row c = c.loop-i.invariant.same
 
-pub returns-in_default : goal.returns-in_default
-returns-in_default c = absurd (row_there _ _ (omega (arith, (root c.requires.at).inside, c.loop-i-test.true)) (sym c.row_at.ensures ∙ c.in_default.is))
+pub returns-in_err-row : goal.returns-in_err-row
+returns-in_err-row c = absurd (row_there _ _ (omega (arith, (root c.requires.at).inside, c.loop-i-test.true)) (sym c.row_at.ensures ∙ c.in_err-row.was))
 
 pub overflow_add-at : goal.overflow_add-at
 overflow_add-at c = let room : c.loop-i.at < length c.args.out.now / row_width = let u = c.loop-i.invariant in omega (arith, c.requires.run, c.requires.room, u.end, c.loop-i-test.true) in
@@ -35,11 +35,8 @@ pub overflow_add-at-in-loop-i : goal.overflow_add-at-in-loop-i
 overflow_add-at-in-loop-i c = let room : c.loop-i.at < length c.args.out.now / row_width = let u = c.loop-i.invariant in omega (arith, c.requires.run, c.requires.room, u.end, c.loop-i-test.true) in
     omega (arith, room, c.requires.words)
 
-pub loop-i-smaller : goal.loop-i-smaller
-loop-i-smaller c = omega (arith, c.loop-i-test.true)
-
 pub loop-i-preserved : goal.loop-i-preserved
-loop-i-preserved c = let read : Found c.args.rows.now (c.loop-i.i + 1) c.in-Row.kind c.in-Row.x c.in-Row.y c.in-Row.size = row_found (sym c.row_at.ensures ∙ c.in-Row.is) in
+loop-i-preserved c = let read : Found c.args.rows.now (c.loop-i.i + 1) c.in_ok-row.row.kind c.in_ok-row.row.x c.in_ok-row.row.y c.in_ok-row.row.size = row_found (sym c.row_at.ensures ∙ c.in_ok-row.was) in
     let room : c.loop-i.at < length c.args.out.now / row_width = let u = c.loop-i.invariant in omega (arith, c.requires.run, c.requires.room, u.end, c.loop-i-test.true) in
     let u = c.loop-i.invariant in
     up_more u c.loop-i-test.true read (omega (arith, room, u.same)) (omega (arith, u.low, u.end, c.requires.order)) c.set_row.ensures

@@ -1,7 +1,6 @@
 use mathlib.Core.Path.{◌≡◌}
-use Prim.Native.Nat.{◌-◌, ◌*◌, ◌/◌, ◌≤◌}
+use Prim.Native.Nat.{◌*◌, ◌≤◌}
 use lib.ListN.{length, take}
-use Rattle.grammar.specs.Numbers.{rule_width}
 use Rattle.grammar.specs.Rows.{Span}
 use Rattle.grammar.specs.Table.{Table, resolve_table}
 use Rattle.comparison.specs.Compare.{left_entries}
@@ -9,7 +8,4 @@ use Rattle.comparer.specs.Lists.{Standing, Added}
 use Rattle.comparer.proofs.list_left.Given as goal
 
 abbrev pub invariant-loop-i : goal.invariant-loop-i
-invariant-loop-i l = (l.count ≡ length l.left_rules / rule_width) × (l.i ≤ l.count) × (l.n ≤ l.i * 2) × (length l.list ≡ length l.initial.list) × ((t u : Table Span) → Standing t l.left_rules l.left_rows → Standing u l.right_rules l.right_rows → Added l.n 0 (left_entries 0 (resolve_table l.left_text (take l.i t)) (resolve_table l.right_text u)) l.initial.list l.list)
-
-abbrev pub decreases-loop-i : goal.decreases-loop-i
-decreases-loop-i l = l.count - l.i
+invariant-loop-i l = (l.n ≤ l.i * 2) × (length l.list ≡ length l.initial.list) × ((t u : Table Span) → Standing t l.left_rules l.left_rows → Standing u l.right_rules l.right_rows → Added l.n 0 (left_entries 0 (resolve_table l.left_text (take l.i t)) (resolve_table l.right_text u)) l.initial.list l.list)

@@ -1,22 +1,18 @@
 use mathlib.Core.Path.{sym, ◌∙◌}
-use native.Mathlib.Omega.{arith}
 use Rattle.rows.proofs.Laws.{row_found}
 use Rattle.comparer.proofs.Showing.{lit_none, lit_other, lit_outside, lit_there}
 use Rattle.comparer.proofs.lit_at.Goals as goal
+use Rattle.comparer.proofs.lit_at.Goals.{else-is_lit-via-then-is_lit+else-row-text, else-is_lit-via-else-is_lit}
 
-pub returns-in_default : goal.returns-in_default
-returns-in_default c = c.nothing.ensures ∙ sym (lit_none _ _ _ (sym c.row_at.ensures ∙ c.in_default.is))
+pub returns-in_err-row : goal.returns-in_err-row
+returns-in_err-row c = rw c.from_residual.ensures (sym (lit_none _ _ _ (sym c.row_at.ensures ∙ c.in_err-row.was)))
 
-pub returns-then-not-is_lit : goal.returns-then-not-is_lit
-returns-then-not-is_lit c = let f = row_found (sym c.row_at.ensures ∙ c.in-Row.is) in
-    let l = c.is_lit in
-    c.nothing-then-not-is_lit.ensures ∙ sym (lit_other _ f (sym l.ensures ∙ c.if-not-is_lit.true))
+pub returns-then-row-text : goal.returns-then-row-text
+returns-then-row-text c = sym (lit_there _ (row_found (sym c.row_at.ensures ∙ c.in_ok-row.was)) (sym c.is_lit.ensures ∙ c.if-is_lit.true) c.if-row-text.true)
 
-pub returns-then-text-wide : goal.returns-then-text-wide
-returns-then-text-wide c = let f = row_found (sym c.row_at.ensures ∙ c.in-Row.is) in
-    c.nothing-then-text-wide.ensures ∙ sym (lit_outside _ f (omega (arith, c.if-text-wide.true, c.wide.ensures, c.wide-2.ensures)))
-
-pub returns : goal.returns
-returns c = let f = row_found (sym c.row_at.ensures ∙ c.in-Row.is) in
-    let l = c.is_lit in
-    sym (lit_there _ f (sym l.ensures ∙ c.if-not-is_lit.false) (omega (arith, c.if-text-wide.false, c.wide.ensures, c.wide-2.ensures)))
+pub returns-else-is_lit : goal.returns-else-is_lit
+returns-else-is_lit c = let f = row_found (sym c.row_at.ensures ∙ c.in_ok-row.was) in
+    elim c.else-is_lit.branch [
+      | else-is_lit-via-then-is_lit+else-row-text w ↦ sym (lit_outside _ f w.if-row-text.false)
+      | else-is_lit-via-else-is_lit w ↦ sym (lit_other _ f (sym c.is_lit.ensures ∙ w.if-is_lit.false))
+    ]

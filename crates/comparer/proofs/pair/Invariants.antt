@@ -1,13 +1,6 @@
-use mathlib.Core.Path.{◌≡◌}
-use Prim.Native.Nat.{◌-◌, ◌/◌, ◌≤◌}
-use lib.ListN.{length}
-use Rattle.grammar.specs.Numbers.{rule_width}
 use Rattle.names.specs.Names.{AllIndexed}
 use Rattle.comparer.specs.Pairs.{Paired, Kept}
 use Rattle.comparer.proofs.pair.Given as goal
 
 abbrev pub invariant-loop-i : goal.invariant-loop-i
-invariant-loop-i l = (l.count ≡ length l.left_rules / rule_width) × (l.i ≤ l.count) × Paired l.i l.left_rules l.left_text l.right_rules l.right_text l.left_marks l.right_marks × Kept l.initial.left_marks l.left_marks × Kept l.initial.right_marks l.right_marks × AllIndexed l.right_rules l.right_text l.right_marks
-
-abbrev pub decreases-loop-i : goal.decreases-loop-i
-decreases-loop-i l = l.count - l.i
+invariant-loop-i l = Paired l.i l.left_rules l.left_text l.right_rules l.right_text l.left_marks l.right_marks × Kept l.initial.left_marks l.left_marks × Kept l.initial.right_marks l.right_marks × AllIndexed l.right_rules l.right_text l.right_marks

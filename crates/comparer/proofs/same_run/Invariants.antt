@@ -1,11 +1,8 @@
 -- The invariant: the rows passed are the same. Assumes nothing.
 use mathlib.Core.Path.{◌≡◌}
-use Prim.Native.Nat.{ℕ, ◌+◌, ◌-◌, ◌≤◌, ◌<◌}
+use Prim.Native.Nat.{ℕ, ◌+◌, ◌<◌}
 use Rattle.rows.specs.Rows.{cell_at}
 use Rattle.comparer.proofs.same_run.Given as goal
 
 abbrev pub invariant-loop-k : goal.invariant-loop-k
-invariant-loop-k l = (l.k ≤ l.n) × ((m : ℕ) → m < l.k → cell_at l.text1 l.rows1 (l.i + m) ≡ cell_at l.text2 l.rows2 (l.j + m))
-
-abbrev pub decreases-loop-k : goal.decreases-loop-k
-decreases-loop-k l = l.n - l.k
+invariant-loop-k l = (m : ℕ) → m < l.k → cell_at l.text1 l.rows1 (l.i + m) ≡ cell_at l.text2 l.rows2 (l.j + m)

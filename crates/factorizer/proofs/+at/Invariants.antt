@@ -1,7 +1,6 @@
 -- `at` meets its contract; the measure is the tree's rows. Assumes nothing.
--- the node below the run, and the plan for it
 use Rattle.factorizer.proofs.Plans.{tree_size}
 use Rattle.factorizer.proofs.+at.Given as goal
 
 abbrev pub decreases-at : goal.decreases-at
-decreases-at l = tree_size l.two l.rows.now l.l l.r
+decreases-at l = tree_size l.rows.now l.l l.r

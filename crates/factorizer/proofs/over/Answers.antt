@@ -3,28 +3,24 @@
 use mathlib.Core.Path.{refl, sym}
 use native.Mathlib.Omega.{arith}
 use Rattle.grammar.specs.Tree.{Opt, Seq, Choice}
-use Rattle.writing.proofs.Puts.{row_done}
 use Rattle.writing.proofs.Keeps.{kept_done, kept_full}
 use Rattle.factorizer.proofs.Walks.{un_answer, bin_answer}
 use Rattle.chains.proofs.Walks.{kept_same}
 use Rattle.factorizer.proofs.Plans.{over_opt, over_choice, over_seq, opt_room, bin_room}
 use Rattle.factorizer.proofs.over.Goals as goal
 
-pub returns-in_default : goal.returns-in_default
-returns-in_default c = λ x y o o₁ t t₁ t₂ w v h. kept_full _ _ _ _ _ _ c.in_default.is (un_answer c.end.result c.end.new.out Opt v refl (omega (arith, opt_room c.args.kind w v h c.if-kind-eq-OPT.true)) c.end.ensures)
-
-pub end-requires-then-kind-eq-OPT : goal.end-requires-then-kind-eq-OPT
-end-requires-then-kind-eq-OPT c = let u = row_done _ _ _ _ _ c.in-Done.is c.end.ensures in (omega (arith, c.requires.rows_le_rows.0, c.requires.rows_le_rows.1.0, u.rows), omega (arith, u.rows, u.room, c.requires.out_len_bound))
+pub returns-in_err-e : goal.returns-in_err-e
+returns-in_err-e c = λ x y o o₁ t t₁ t₂ w v h. absurd (kept_full _ _ _ _ _ _ c.in_err-e.was (un_answer c.put_over.result c.put_over.new.out Opt v refl (omega (arith, opt_room c.args.kind w v h c.if-kind-eq-OPT.true)) c.put_over.ensures))
 
 pub returns-then-kind-eq-OPT : goal.returns-then-kind-eq-OPT
 returns-then-kind-eq-OPT c = λ x y o o₁ t t₁ t₂ w v h.
     let k = c.if-kind-eq-OPT.true in
     let r = opt_room c.args.kind w v h k in
-    let u = kept_done _ _ _ _ _ _ c.in-Done.is (un_answer c.end.result c.end.new.out Opt v refl (omega arith) c.end.ensures) in
-    kept_same c.end-then-kind-eq-OPT.result _ _ _ _ _ (sym (over_opt c.args.kind x y k)) (bin_answer c.end-then-kind-eq-OPT.result c.end-then-kind-eq-OPT.new.out Seq w u refl (omega (arith, u.rows, v.rows, c.end.auto.out)) c.end-then-kind-eq-OPT.ensures)
+    let u = kept_done _ _ _ _ _ _ c.in_ok-e.was (un_answer c.put_over.result c.put_over.new.out Opt v refl (omega arith) c.put_over.ensures) in
+    kept_same c.put_over-then-kind-eq-OPT.result _ _ _ _ _ (sym (over_opt c.args.kind x y k)) (bin_answer c.put_over-then-kind-eq-OPT.result c.put_over-then-kind-eq-OPT.new.out Seq w u refl (omega (arith, u.rows, v.rows, c.put_over.auto.out)) c.put_over-then-kind-eq-OPT.ensures)
 
 pub returns-then-kind-eq-CHOICE : goal.returns-then-kind-eq-CHOICE
-returns-then-kind-eq-CHOICE c = λ x y o o₁ t t₁ t₂ w v h. let e = over_choice c.args.kind x y c.if-kind-eq-CHOICE.true in kept_same c.end-then-kind-eq-CHOICE.result _ _ _ _ _ (sym e) (bin_answer c.end-then-kind-eq-CHOICE.result c.end-then-kind-eq-CHOICE.new.out Choice w v refl (bin_room c.args.kind w v h e) c.end-then-kind-eq-CHOICE.ensures)
+returns-then-kind-eq-CHOICE c = λ x y o o₁ t t₁ t₂ w v h. let e = over_choice c.args.kind x y c.if-kind-eq-CHOICE.true in kept_same c.put_over-then-kind-eq-CHOICE.result _ _ _ _ _ (sym e) (bin_answer c.put_over-then-kind-eq-CHOICE.result c.put_over-then-kind-eq-CHOICE.new.out Choice w v refl (bin_room c.args.kind w v h e) c.put_over-then-kind-eq-CHOICE.ensures)
 
 pub returns : goal.returns
-returns c = λ x y o o₁ t t₁ t₂ w v h. let e = over_seq c.args.kind x y c.if-kind-eq-OPT.false c.if-kind-eq-CHOICE.false in kept_same c.end-2.result _ _ _ _ _ (sym e) (bin_answer c.end-2.result c.end-2.new.out Seq w v refl (bin_room c.args.kind w v h e) c.end-2.ensures)
+returns c = λ x y o o₁ t t₁ t₂ w v h. let e = over_seq c.args.kind x y c.if-kind-eq-OPT.false c.if-kind-eq-CHOICE.false in kept_same c.put_over-2.result _ _ _ _ _ (sym e) (bin_answer c.put_over-2.result c.put_over-2.new.out Seq w v refl (bin_room c.args.kind w v h e) c.put_over-2.ensures)

@@ -1,117 +1,79 @@
-use mathlib.Core.Path.{◌≡◌, ◌∙◌}
+use mathlib.Core.Path.{◌∙◌}
 use native.Mathlib.Omega.{arith}
-use Rattle.grammar.specs.Tree.{E, Expr}
-use Rattle.grammar.specs.Rows.{Span}
-use Rattle.grammar.specs.Text.{resolve}
-use Rattle.grammar.specs.Steps as steps
-use Rattle.rows.specs.Rows.{At, Stands, kind_at}
-use Rattle.rows.proofs.Laws.{root}
 use Rattle.rows.proofs.Cells.{tells_yes, tells_no}
-use Rattle.writing.specs.Keeps.{Kept, KeptAnswer}
-use Rattle.writing.proofs.Keeps.{kept_done, kept_full}
-use Rattle.chains.specs.Runs.{low}
-use Rattle.chains.proofs.Runs.{low_at}
-use Rattle.chains.proofs.Walks.{Forked, as_forked, ready_left, same_areas, leaf_below, leaf_kept, run_raisable, run_kept}
+use Rattle.writing.proofs.Keeps.{kept_some}
+use Rattle.chains.proofs.Walks.{same_areas, leaf_below, leaf_kept}
+use Rattle.chains.proofs.Nodes.{base_stands, stands_inside, fork, own, forked, left_ready, left_falls, right_falls, base_some, right_ready, both_of, raise_ready, raised}
+use Rattle.grammar.specs.Steps.{list}
 use Rattle.lister.proofs.Lists.{list_un}
-use Rattle.lister.proofs.Walks.{list_leaf, list_most, right_ready, two_pair, list_two}
-use lib.ListN.{length}
+use Rattle.lister.proofs.Walks.{list_leaf, list_step, two_pair, two_kept}
 use Rattle.lister.proofs.+list.Goals as goal
 
-abbrev listed : E → E
-listed e = steps.list e
-
-pub below-base-requires : goal.below-base-requires
-below-base-requires t c = record { tree = c.requires.ready.tree; at = c.requires.ready.at }
-
 pub forks-requires : goal.forks-requires
-forks-requires t c = let base_at : Stands c.args.rows.now c.below-base.result = record { tree = low c.requires.ready.tree; at = low_at c.requires.ready.tree c.requires.ready.at _ (c.below-base.ensures c.requires.ready.tree c.requires.ready.at) } in
-    base_at
+forks-requires t c = base_stands c.requires.ready c.below-base.ensures
 
 pub returns-then-not-forks : goal.returns-then-not-forks
-returns-then-not-forks t c = λ r a. leaf_kept listed list_un c.args.text.now (list_leaf c.args.text.now) r (leaf_below _ r a (c.below-base.ensures r a) (tells_no c.if-not-forks.true c.forks.ensures)) c.keep.result _ _ _ _ _ (c.keep.ensures r a)
+returns-then-not-forks t c = λ r a. leaf_kept list list_un c.args.text.now (list_leaf c.args.text.now) r (leaf_below _ r a (c.below-base.ensures r a) (tells_no c.if-not-forks.true c.forks.ensures)) c.keep.result _ _ _ _ _ (c.keep.ensures r a)
 
-pub left_of-requires-clause-stands : goal.left_of-requires-clause-stands
-left_of-requires-clause-stands t c = let base_at : Stands c.args.rows.now c.below-base.result = record { tree = low c.requires.ready.tree; at = low_at c.requires.ready.tree c.requires.ready.at _ (c.below-base.ensures c.requires.ready.tree c.requires.ready.at) } in
-    base_at
-
-pub left_of-requires-clause-i_value : goal.left_of-requires-clause-i_value
-left_of-requires-clause-i_value t c =
-    tells_yes c.if-not-forks.false c.forks.ensures
+pub left_of-left-requires-clause-stands : goal.left_of-left-requires-clause-stands
+left_of-left-requires-clause-stands t c = base_stands c.requires.ready c.below-base.ensures
 
 pub list-requires : goal.list-requires
-list-requires t c = let fork : (r : Expr Span) → At c.args.rows.now c.args.root r → Forked c.args.rows.now c.args.text.now c.args.root c.below-base.result c.left_of.result c.args.p c.args.out.now c.args.lits.now r = λ r a. as_forked c.requires.ready (tells_yes c.if-not-forks.false c.forks.ensures) c.left_of.ensures r a (c.below-base.ensures r a) in
-    let f = fork c.requires.ready.tree c.requires.ready.at in
-    (omega (arith, c.decreases, f.left_falls), (c.requires.inside, (ready_left f, c.requires.areas)))
+list-requires t c =
+    let f = fork c.requires.ready c.below-base.ensures (tells_yes c.if-not-forks.false c.forks.ensures) c.left_of-left.ensures in
+    (omega (arith, c.decreases, left_falls f), (c.requires.inside, (left_ready f, c.requires.areas)))
 
-pub ended-q-requires : goal.ended-q-requires
-ended-q-requires t c = let fork : (r : Expr Span) → At c.args.rows.now c.args.root r → Forked c.args.rows.now c.args.text.now c.args.root c.below-base.result c.left_of.result c.args.p c.args.out.now c.args.lits.now r = λ r a. as_forked c.requires.ready (tells_yes c.if-not-forks.false c.forks.ensures) c.left_of.ensures r a (c.below-base.ensures r a) in
-    λ e. let f = fork c.requires.ready.tree c.requires.ready.at in kept_full _ _ _ _ _ _ e (c.list.ensures f.view.left f.at_left)
+pub unwrap-q-requires : goal.unwrap-q-requires
+unwrap-q-requires t c =
+    let f = fork c.requires.ready c.below-base.ensures (tells_yes c.if-not-forks.false c.forks.ensures) c.left_of-left.ensures in
+    kept_some _ _ _ _ _ _ _ (c.list.ensures _ (own f).at_left)
 
 pub overflow_sub-base : goal.overflow_sub-base
-overflow_sub-base t c = let fork : (r : Expr Span) → At c.args.rows.now c.args.root r → Forked c.args.rows.now c.args.text.now c.args.root c.below-base.result c.left_of.result c.args.p c.args.out.now c.args.lits.now r = λ r a. as_forked c.requires.ready (tells_yes c.if-not-forks.false c.forks.ensures) c.left_of.ensures r a (c.below-base.ensures r a) in
-    let v = (fork c.requires.ready.tree c.requires.ready.at).view in omega (arith, v.least_left, v.most)
+overflow_sub-base t c =
+    base_some (fork c.requires.ready c.below-base.ensures (tells_yes c.if-not-forks.false c.forks.ensures) c.left_of-left.ensures)
 
 pub list-requires-2 : goal.list-requires-2
-list-requires-2 t c = let fork : (r : Expr Span) → At c.args.rows.now c.args.root r → Forked c.args.rows.now c.args.text.now c.args.root c.below-base.result c.left_of.result c.args.p c.args.out.now c.args.lits.now r = λ r a. as_forked c.requires.ready (tells_yes c.if-not-forks.false c.forks.ensures) c.left_of.ensures r a (c.below-base.ensures r a) in
-    let left_kept : (r : Expr Span) (a : At c.args.rows.now c.args.root r) → Kept c.ended-q.result c.args.p (listed (resolve c.args.text.now (fork r a).view.left)) c.args.out.now c.list.new.out c.args.lits.now c.list.new.lits = λ r a. let f = fork r a in kept_done _ _ _ _ _ _ c.ended-q.ensures (c.list.ensures f.view.left f.at_left) in
-    let f = fork c.requires.ready.tree c.requires.ready.at in
-    (omega (arith, c.decreases, f.right_falls), (c.requires.inside, (right_ready c.args.text.now f.view (left_kept c.requires.ready.tree c.requires.ready.at) c.list.auto.out c.list.auto.lits f.fits, same_areas c.requires.areas c.list.auto.out c.list.auto.lits)))
+list-requires-2 t c =
+    let f = fork c.requires.ready c.below-base.ensures (tells_yes c.if-not-forks.false c.forks.ensures) c.left_of-left.ensures in
+    let x = c.list.auto in
+    (omega (arith, c.decreases, right_falls f), (c.requires.inside, (right_ready list_step f c.unwrap-q.ensures c.list.ensures x.out x.lits, same_areas c.requires.areas x.out x.lits)))
 
-pub ended-s-requires : goal.ended-s-requires
-ended-s-requires t c = let fork : (r : Expr Span) → At c.args.rows.now c.args.root r → Forked c.args.rows.now c.args.text.now c.args.root c.below-base.result c.left_of.result c.args.p c.args.out.now c.args.lits.now r = λ r a. as_forked c.requires.ready (tells_yes c.if-not-forks.false c.forks.ensures) c.left_of.ensures r a (c.below-base.ensures r a) in
-    λ e. let v = (fork c.requires.ready.tree c.requires.ready.at).view in kept_full _ _ _ _ _ _ e (c.list-2.ensures v.right v.at_right)
+pub unwrap-s-requires : goal.unwrap-s-requires
+unwrap-s-requires t c =
+    let f = fork c.requires.ready c.below-base.ensures (tells_yes c.if-not-forks.false c.forks.ensures) c.left_of-left.ensures in
+    kept_some _ _ _ _ _ _ _ (c.list-2.ensures _ (own f).view.at_right)
 
-pub overflow_mul-base : goal.overflow_mul-base
-overflow_mul-base t c = let base_at : Stands c.args.rows.now c.below-base.result = record { tree = low c.requires.ready.tree; at = low_at c.requires.ready.tree c.requires.ready.at _ (c.below-base.ensures c.requires.ready.tree c.requires.ready.at) } in
-    omega (arith, (root base_at.at).inside, c.well_formed.0)
-
-pub offset_bounds-rows-base : goal.offset_bounds-rows-base
-offset_bounds-rows-base t c = let base_at : Stands c.args.rows.now c.below-base.result = record { tree = low c.requires.ready.tree; at = low_at c.requires.ready.tree c.requires.ready.at _ (c.below-base.ensures c.requires.ready.tree c.requires.ready.at) } in
-    omega (arith, (root base_at.at).inside, c.well_formed.0)
-
-pub bounds-rows-base : goal.bounds-rows-base
-bounds-rows-base t c = let base_at : Stands c.args.rows.now c.below-base.result = record { tree = low c.requires.ready.tree; at = low_at c.requires.ready.tree c.requires.ready.at _ (c.below-base.ensures c.requires.ready.tree c.requires.ready.at) } in
-    omega (arith, (root base_at.at).inside)
+pub kind_at-requires : goal.kind_at-requires
+kind_at-requires t c = stands_inside (base_stands c.requires.ready c.below-base.ensures)
 
 pub finish-requires : goal.finish-requires
-finish-requires t c = let fork : (r : Expr Span) → At c.args.rows.now c.args.root r → Forked c.args.rows.now c.args.text.now c.args.root c.below-base.result c.left_of.result c.args.p c.args.out.now c.args.lits.now r = λ r a. as_forked c.requires.ready (tells_yes c.if-not-forks.false c.forks.ensures) c.left_of.ensures r a (c.below-base.ensures r a) in
-    let left_kept : (r : Expr Span) (a : At c.args.rows.now c.args.root r) → Kept c.ended-q.result c.args.p (listed (resolve c.args.text.now (fork r a).view.left)) c.args.out.now c.list.new.out c.args.lits.now c.list.new.lits = λ r a. let f = fork r a in kept_done _ _ _ _ _ _ c.ended-q.ensures (c.list.ensures f.view.left f.at_left) in
-    let right_kept : (r : Expr Span) (a : At c.args.rows.now c.args.root r) → Kept c.ended-s.result c.ended-q.result (listed (resolve c.args.text.now (fork r a).view.right)) c.list.new.out c.list-2.new.out c.list.new.lits c.list-2.new.lits = λ r a. let v = (fork r a).view in kept_done _ _ _ _ _ _ c.ended-s.ensures (c.list-2.ensures v.right v.at_right) in
-    let f = fork c.requires.ready.tree c.requires.ready.at in record { left = _; right = _; pair = two_pair c.args.text.now f.view (left_kept c.requires.ready.tree c.requires.ready.at) c.list.auto.out c.list.auto.lits f.fits (right_kept c.requires.ready.tree c.requires.ready.at) c.list-2.auto.out c.list-2.auto.lits; areas = same_areas c.requires.areas (c.list-2.auto.out ∙ c.list.auto.out) (c.list-2.auto.lits ∙ c.list.auto.lits) }
+finish-requires t c =
+    let f = fork c.requires.ready c.below-base.ensures (tells_yes c.if-not-forks.false c.forks.ensures) c.left_of-left.ensures in
+    let x = c.list.auto in
+    let y = c.list-2.auto in
+    record { left = _; right = _; pair = two_pair (own f).view (both_of list_step f c.unwrap-q.ensures c.list.ensures x.out x.lits c.unwrap-s.ensures c.list-2.ensures y.out y.lits (own f)); areas = same_areas c.requires.areas (y.out ∙ x.out) (y.lits ∙ x.lits) }
 
-pub ended-e-requires : goal.ended-e-requires
-unfolding kind_at
-ended-e-requires t c = let fork : (r : Expr Span) → At c.args.rows.now c.args.root r → Forked c.args.rows.now c.args.text.now c.args.root c.below-base.result c.left_of.result c.args.p c.args.out.now c.args.lits.now r = λ r a. as_forked c.requires.ready (tells_yes c.if-not-forks.false c.forks.ensures) c.left_of.ensures r a (c.below-base.ensures r a) in
-    let left_kept : (r : Expr Span) (a : At c.args.rows.now c.args.root r) → Kept c.ended-q.result c.args.p (listed (resolve c.args.text.now (fork r a).view.left)) c.args.out.now c.list.new.out c.args.lits.now c.list.new.lits = λ r a. let f = fork r a in kept_done _ _ _ _ _ _ c.ended-q.ensures (c.list.ensures f.view.left f.at_left) in
-    let right_kept : (r : Expr Span) (a : At c.args.rows.now c.args.root r) → Kept c.ended-s.result c.ended-q.result (listed (resolve c.args.text.now (fork r a).view.right)) c.list.new.out c.list-2.new.out c.list.new.lits c.list-2.new.lits = λ r a. let v = (fork r a).view in kept_done _ _ _ _ _ _ c.ended-s.ensures (c.list-2.ensures v.right v.at_right) in
-    let answer : (r : Expr Span) (a : At c.args.rows.now c.args.root r) → KeptAnswer c.finish.result c.args.p (listed (resolve c.args.text.now (low r))) c.args.out.now c.finish.new.out c.args.lits.now c.list-2.new.lits = λ r a. let f = fork r a in
-    list_two c.args.text.now f.view (left_kept r a) c.list.auto.out c.list.auto.lits f.fits (right_kept r a) c.list-2.auto.out c.list-2.auto.lits c.finish.result c.finish.new.out c.finish.ensures in
-    λ e. kept_full _ _ _ _ _ _ e (answer c.requires.ready.tree c.requires.ready.at)
+pub unwrap-e-requires : goal.unwrap-e-requires
+unwrap-e-requires t c =
+    let f = fork c.requires.ready c.below-base.ensures (tells_yes c.if-not-forks.false c.forks.ensures) c.left_of-left.ensures in
+    let x = c.list.auto in
+    let y = c.list-2.auto in
+    kept_some _ _ _ _ _ _ _ (two_kept (own f).view (both_of list_step f c.unwrap-q.ensures c.list.ensures x.out x.lits c.unwrap-s.ensures c.list-2.ensures y.out y.lits (own f)) c.kind_at.ensures c.finish.result c.finish.new.out c.finish.ensures)
 
 pub raise-requires : goal.raise-requires
-unfolding kind_at
-raise-requires t c = let fork : (r : Expr Span) → At c.args.rows.now c.args.root r → Forked c.args.rows.now c.args.text.now c.args.root c.below-base.result c.left_of.result c.args.p c.args.out.now c.args.lits.now r = λ r a. as_forked c.requires.ready (tells_yes c.if-not-forks.false c.forks.ensures) c.left_of.ensures r a (c.below-base.ensures r a) in
-    let left_kept : (r : Expr Span) (a : At c.args.rows.now c.args.root r) → Kept c.ended-q.result c.args.p (listed (resolve c.args.text.now (fork r a).view.left)) c.args.out.now c.list.new.out c.args.lits.now c.list.new.lits = λ r a. let f = fork r a in kept_done _ _ _ _ _ _ c.ended-q.ensures (c.list.ensures f.view.left f.at_left) in
-    let right_kept : (r : Expr Span) (a : At c.args.rows.now c.args.root r) → Kept c.ended-s.result c.ended-q.result (listed (resolve c.args.text.now (fork r a).view.right)) c.list.new.out c.list-2.new.out c.list.new.lits c.list-2.new.lits = λ r a. let v = (fork r a).view in kept_done _ _ _ _ _ _ c.ended-s.ensures (c.list-2.ensures v.right v.at_right) in
-    let answer : (r : Expr Span) (a : At c.args.rows.now c.args.root r) → KeptAnswer c.finish.result c.args.p (listed (resolve c.args.text.now (low r))) c.args.out.now c.finish.new.out c.args.lits.now c.list-2.new.lits = λ r a. let f = fork r a in
-    list_two c.args.text.now f.view (left_kept r a) c.list.auto.out c.list.auto.lits f.fits (right_kept r a) c.list-2.auto.out c.list-2.auto.lits c.finish.result c.finish.new.out c.finish.ensures in
-    let node_kept : (r : Expr Span) (a : At c.args.rows.now c.args.root r) → Kept c.ended-e.result c.args.p (listed (resolve c.args.text.now (low r))) c.args.out.now c.finish.new.out c.args.lits.now c.list-2.new.lits = λ r a. kept_done _ _ _ _ _ _ c.ended-e.ensures (answer r a) in
-    let out_same : length c.finish.new.out ≡ length c.args.out.now = c.finish.auto.out ∙ c.list-2.auto.out ∙ c.list.auto.out in
-    run_raisable listed list_un c.args.text.now c.requires.ready.tree (node_kept c.requires.ready.tree c.requires.ready.at) (list_most _) _ c.requires.ready.at (c.below-base.ensures c.requires.ready.tree c.requires.ready.at) c.requires.ready.fits out_same c.requires.areas.words
-
-pub shape_of-out : goal.shape_of-out
-shape_of-out t c = let out_same : length c.finish.new.out ≡ length c.args.out.now = c.finish.auto.out ∙ c.list-2.auto.out ∙ c.list.auto.out in
-    c.raise.auto.out ∙ out_same
-
-pub shape_of-lits : goal.shape_of-lits
-shape_of-lits t c = c.list-2.auto.lits ∙ c.list.auto.lits
+raise-requires t c =
+    let f = fork c.requires.ready c.below-base.ensures (tells_yes c.if-not-forks.false c.forks.ensures) c.left_of-left.ensures in
+    let x = c.list.auto in
+    let y = c.list-2.auto in
+    raise_ready list_step f c.list-2.new.lits c.unwrap-e.ensures
+    (λ r a. two_kept (forked f r a).view (both_of list_step f c.unwrap-q.ensures c.list.ensures x.out x.lits c.unwrap-s.ensures c.list-2.ensures y.out y.lits (forked f r a)) c.kind_at.ensures c.finish.result c.finish.new.out c.finish.ensures)
+    (c.finish.auto.out ∙ y.out ∙ x.out) c.requires.areas
 
 pub returns : goal.returns
-unfolding kind_at
-returns t c = let fork : (r : Expr Span) → At c.args.rows.now c.args.root r → Forked c.args.rows.now c.args.text.now c.args.root c.below-base.result c.left_of.result c.args.p c.args.out.now c.args.lits.now r = λ r a. as_forked c.requires.ready (tells_yes c.if-not-forks.false c.forks.ensures) c.left_of.ensures r a (c.below-base.ensures r a) in
-    let left_kept : (r : Expr Span) (a : At c.args.rows.now c.args.root r) → Kept c.ended-q.result c.args.p (listed (resolve c.args.text.now (fork r a).view.left)) c.args.out.now c.list.new.out c.args.lits.now c.list.new.lits = λ r a. let f = fork r a in kept_done _ _ _ _ _ _ c.ended-q.ensures (c.list.ensures f.view.left f.at_left) in
-    let right_kept : (r : Expr Span) (a : At c.args.rows.now c.args.root r) → Kept c.ended-s.result c.ended-q.result (listed (resolve c.args.text.now (fork r a).view.right)) c.list.new.out c.list-2.new.out c.list.new.lits c.list-2.new.lits = λ r a. let v = (fork r a).view in kept_done _ _ _ _ _ _ c.ended-s.ensures (c.list-2.ensures v.right v.at_right) in
-    let answer : (r : Expr Span) (a : At c.args.rows.now c.args.root r) → KeptAnswer c.finish.result c.args.p (listed (resolve c.args.text.now (low r))) c.args.out.now c.finish.new.out c.args.lits.now c.list-2.new.lits = λ r a. let f = fork r a in
-    list_two c.args.text.now f.view (left_kept r a) c.list.auto.out c.list.auto.lits f.fits (right_kept r a) c.list-2.auto.out c.list-2.auto.lits c.finish.result c.finish.new.out c.finish.ensures in
-    let node_kept : (r : Expr Span) (a : At c.args.rows.now c.args.root r) → Kept c.ended-e.result c.args.p (listed (resolve c.args.text.now (low r))) c.args.out.now c.finish.new.out c.args.lits.now c.list-2.new.lits = λ r a. kept_done _ _ _ _ _ _ c.ended-e.ensures (answer r a) in
-    λ r a. run_kept listed list_un c.args.text.now r (node_kept r a) c.raise.result c.raise.new.out (c.raise.ensures r a)
+returns t c =
+    let f = fork c.requires.ready c.below-base.ensures (tells_yes c.if-not-forks.false c.forks.ensures) c.left_of-left.ensures in
+    let x = c.list.auto in
+    let y = c.list-2.auto in
+    λ r a. raised list_step f c.list-2.new.lits c.unwrap-e.ensures
+    (λ r a. two_kept (forked f r a).view (both_of list_step f c.unwrap-q.ensures c.list.ensures x.out x.lits c.unwrap-s.ensures c.list-2.ensures y.out y.lits (forked f r a)) c.kind_at.ensures c.finish.result c.finish.new.out c.finish.ensures)
+    r a c.raise.result c.raise.new.out (c.raise.ensures r a)

@@ -1,12 +1,13 @@
+use mathlib.Core.Path.{refl}
 use native.Mathlib.Omega.{arith}
 use Rattle.names.proofs.Index.{goes_same, goes_other}
 use Rattle.names.proofs.go_on.Goals as goal
 
 pub same_symbol-requires : goal.same_symbol-requires
-same_symbol-requires c = (omega (arith, c.requires.names_inside c.args.k c.requires.k_in_bounds.0, c.wide.ensures, c.wide-2.ensures), c.requires.n_in_bounds)
+same_symbol-requires c = (omega (arith, c.requires.names_inside c.args.k c.requires.k_in_bounds.0), c.requires.n_in_bounds)
 
 pub returns-then-same_symbol : goal.returns-then-same_symbol
-returns-then-same_symbol c = let a = c.args in (goes_same a.rules.now a.text.now a.marks.now _ a.k c.same_symbol.result c.half-d.ensures.0 c.wide.ensures c.wide-2.ensures c.same_symbol.ensures c.if-same_symbol.true, c.half.ensures.0)
+returns-then-same_symbol c = let a = c.args in (goes_same a.rules.now a.text.now a.marks.now _ a.k c.same_symbol.result c.half-d.ensures.0 refl refl c.same_symbol.ensures c.if-same_symbol.true, c.half.ensures.0)
 
 pub returns : goal.returns
-returns c = let a = c.args in (goes_other a.rules.now a.text.now a.marks.now _ a.k c.same_symbol.result c.half-d.ensures.0 c.wide.ensures c.wide-2.ensures c.same_symbol.ensures c.if-same_symbol.false, c.half-2.ensures.0)
+returns c = let a = c.args in (goes_other a.rules.now a.text.now a.marks.now _ a.k c.same_symbol.result c.half-d.ensures.0 refl refl c.same_symbol.ensures c.if-same_symbol.false, c.half-2.ensures.0)

@@ -7,6 +7,3 @@ use Rattle.names.proofs.hash_bytes.Given as goal
 
 abbrev pub invariant-loop-i : goal.invariant-loop-i
 invariant-loop-i l = (l.i ≤ l.n) × (l.h < 2 ^ 32) × (hash_from l.h (bytes_at l.text (l.x + l.i, l.n - l.i)) ≡ hash_from (l.seed % 2 ^ 32) (bytes_at l.text (l.x, l.n)))
-
-abbrev pub decreases-loop-i : goal.decreases-loop-i
-decreases-loop-i l = l.n - l.i

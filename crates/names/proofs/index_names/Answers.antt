@@ -32,9 +32,6 @@ shape_of-marks-then-not-index_name c = c.index_name.auto.marks ∙ c.loop-i.inva
 pub returns-then-not-index_name : goal.returns-then-not-index_name
 returns-then-not-index_name c = record { yes = λ e. search rules; no = λ _. c.index_name.ensures.no c.if-not-index_name.true }
 
-pub loop-i-smaller : goal.loop-i-smaller
-loop-i-smaller c = omega (arith, c.loop-i-test.true)
-
 pub loop-i-preserved : goal.loop-i-preserved
 loop-i-preserved c = let l = c.loop-i in (omega (arith, c.loop-i-test.true), c.index_name.auto.marks ∙ l.invariant.1, c.index_name.ensures.yes c.if-not-index_name.false)
 

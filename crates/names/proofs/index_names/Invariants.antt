@@ -1,5 +1,5 @@
 use mathlib.Core.Path.{◌≡◌}
-use Prim.Native.Nat.{◌-◌, ◌/◌, ◌≤◌}
+use Prim.Native.Nat.{◌/◌, ◌≤◌}
 use lib.ListN.{length}
 use Rattle.grammar.specs.Numbers.{rule_width}
 use Rattle.names.specs.Names.{Indexed}
@@ -7,6 +7,3 @@ use Rattle.names.proofs.index_names.Given as goal
 
 abbrev pub invariant-loop-i : goal.invariant-loop-i
 invariant-loop-i l = (l.i ≤ length l.rules / rule_width) × (length l.marks ≡ length l.initial.marks) × Indexed l.i l.rules l.text l.marks
-
-abbrev pub decreases-loop-i : goal.decreases-loop-i
-decreases-loop-i l = length l.rules / rule_width - l.i

@@ -1,4 +1,4 @@
-use mathlib.Core.Path.{◌≡◌, refl, ◌∙◌, subst}
+use mathlib.Core.Path.{◌≡◌, refl, subst}
 use Prim.Native.Nat.{ℕ, ◌+◌, ◌-◌, ◌*◌}
 use lib.ListN.{get_or}
 use native.Mathlib.Omega.{arith}
@@ -18,13 +18,13 @@ returns-then-step-eq-RESTORE_STEP c = (omega arith, c.requires.from_in_bounds.0,
 pub loop-i-init : goal.loop-i-init
 loop-i-init c = (refl, omega arith, c.requires.from_in_bounds.0, c.requires.from_in_bounds.1, λ j b a. absurd (omega (arith, a, b)))
 
-pub overflow_add-end : goal.overflow_add-end
-overflow_add-end c = let here : let i = c.loop-i.i in Following (λ y e. e) c.requires.held.table c.args.rules.now c.args.rows.now c.args.text.now i (rows_before c.args.rules.now i) = let h = c.requires.held.holds in following {F = λ y e. e} h (omega (arith, c.loop-i.invariant.0, c.loop-i-test.true)) (cut h _ (omega (arith, c.loop-i.invariant.0, c.loop-i.invariant.2))) in
-    let n = here in omega (arith, n.bound, n.rows, c.wide.ensures, c.loop-i.invariant.3)
+pub overflow_add-end-in-loop-i : goal.overflow_add-end-in-loop-i
+overflow_add-end-in-loop-i c = let here : let i = c.loop-i.i in Following (λ y e. e) c.requires.held.table c.args.rules.now c.args.rows.now c.args.text.now i (rows_before c.args.rules.now i) = let h = c.requires.held.holds in following {F = λ y e. e} h (omega (arith, c.loop-i.invariant.0, c.loop-i-test.true)) (cut h _ (omega (arith, c.loop-i.invariant.0, c.loop-i.invariant.2))) in
+    let n = here in omega (arith, n.bound, n.rows, c.loop-i.invariant.3)
 
 pub overflow_sub-end : goal.overflow_sub-end
 overflow_sub-end c = let here : let i = c.loop-i.i in Following (λ y e. e) c.requires.held.table c.args.rules.now c.args.rows.now c.args.text.now i (rows_before c.args.rules.now i) = let h = c.requires.held.holds in following {F = λ y e. e} h (omega (arith, c.loop-i.invariant.0, c.loop-i-test.true)) (cut h _ (omega (arith, c.loop-i.invariant.0, c.loop-i.invariant.2))) in
-    let n = here in omega (arith, n.rows, size_pos n.rule.body, c.wide.ensures)
+    let n = here in omega (arith, n.rows, size_pos n.rule.body)
 
 pub still-requires-clause-inside : goal.still-requires-clause-inside
 still-requires-clause-inside c =
@@ -32,33 +32,29 @@ still-requires-clause-inside c =
 
 pub still-requires-clause-stands : goal.still-requires-clause-stands
 still-requires-clause-stands c = let here : let i = c.loop-i.i in Following (λ y e. e) c.requires.held.table c.args.rules.now c.args.rows.now c.args.text.now i (rows_before c.args.rules.now i) = let h = c.requires.held.holds in following {F = λ y e. e} h (omega (arith, c.loop-i.invariant.0, c.loop-i-test.true)) (cut h _ (omega (arith, c.loop-i.invariant.0, c.loop-i.invariant.2))) in
-    let w = c.wide in
     let l = c.loop-i in
     let n = here in
     let p = size_pos n.rule.body in
-    let a = n.at (l.begin + w.result - 1) (omega (arith, l.invariant.3, n.rows, p, w.ensures)) in
+    let a = n.at (l.begin + get_or c.args.rules.now (c.loop-i.i * rule_width + rows_word) 0 - 1) (omega (arith, l.invariant.3, n.rows, p)) in
     record { tree = n.rule.body; at = a }
 
 pub still-requires-clause-root_value : goal.still-requires-clause-root_value
 still-requires-clause-root_value c = let here : let i = c.loop-i.i in Following (λ y e. e) c.requires.held.table c.args.rules.now c.args.rows.now c.args.text.now i (rows_before c.args.rules.now i) = let h = c.requires.held.holds in following {F = λ y e. e} h (omega (arith, c.loop-i.invariant.0, c.loop-i-test.true)) (cut h _ (omega (arith, c.loop-i.invariant.0, c.loop-i.invariant.2))) in
-    let w = c.wide in
     let l = c.loop-i in
     let n = here in
     let p = size_pos n.rule.body in
-    let a = n.at (l.begin + w.result - 1) (omega (arith, l.invariant.3, n.rows, p, w.ensures)) in
-    omega (arith, (root a).rows, n.rows, p, w.ensures)
+    let a = n.at (l.begin + get_or c.args.rules.now (c.loop-i.i * rule_width + rows_word) 0 - 1) (omega (arith, l.invariant.3, n.rows, p)) in
+    omega (arith, (root a).rows, n.rows, p)
 
 pub returns-then-not-still : goal.returns-then-not-still
 returns-then-not-still c = (c.loop-i.invariant.1, omega (arith, c.loop-i.invariant.0, c.loop-i.invariant.2), c.loop-i.invariant.4)
 
 pub loop-i-preserved : goal.loop-i-preserved
-loop-i-preserved c = let w = c.wide in
-    let l = c.loop-i in
+loop-i-preserved c = let l = c.loop-i in
     let v = l.invariant in
-    let e : l.begin + w.result ≡ l.begin + get_or c.args.rules.now (l.i * rule_width + rows_word) 0 = omega (arith, w.ensures) in
-    let f : l.begin + w.result ≡ rows_before c.args.rules.now (l.i + 1) = e ∙ before_step c.args.rules.now l.i l.begin v.3 in
+    let f : l.begin + get_or c.args.rules.now (c.loop-i.i * rule_width + rows_word) 0 ≡ rows_before c.args.rules.now (l.i + 1) = before_step c.args.rules.now l.i l.begin v.3 in
     let h : (k : ℕ) → k + 1 ≡ rows_before c.args.rules.now (l.i + 1) → Leaves c.args.step (get_or c.args.rules.now (l.i * rule_width + type_word) 0) c.args.rows.now c.args.text.now k = λ k q.
-    let z : l.begin + w.result - 1 ≡ k = omega (arith, q, f) in
+    let z : l.begin + get_or c.args.rules.now (c.loop-i.i * rule_width + rows_word) 0 - 1 ≡ k = omega (arith, q, f) in
     subst (λ (x : ℕ). Leaves c.args.step (get_or c.args.rules.now (l.i * rule_width + type_word) 0) c.args.rows.now c.args.text.now x) z (c.still.ensures c.if-not-still.false) in
     (v.0, omega (arith, v.1), omega (arith, c.loop-i-test.true), f, below_more _ _ v.4 (λ _. h))
 

@@ -1,7 +1,7 @@
 -- `first_fired` meets its contract: the step leaves each rule that the loop passed as it is. Assumes nothing.
 -- rule i begins at row `begin`, and those before it are left as they are
 use mathlib.Core.Path.{◌≡◌}
-use Prim.Native.Nat.{◌-◌, ◌/◌, ◌≤◌}
+use Prim.Native.Nat.{◌/◌, ◌≤◌}
 use lib.ListN.{length}
 use Rattle.grammar.specs.Numbers.{rule_width}
 use Rattle.names.specs.Names.{rows_before}
@@ -10,6 +10,3 @@ use Rattle.passes.proofs.first_fired.Given as goal
 
 abbrev pub invariant-loop-i : goal.invariant-loop-i
 invariant-loop-i l = (l.count ≡ length l.rules / rule_width) × (l.from ≤ l.i) × (l.i ≤ l.count) × (l.begin ≡ rows_before l.rules l.i) × LeavesFrom l.step l.rules l.rows l.text l.from l.i
-
-abbrev pub decreases-loop-i : goal.decreases-loop-i
-decreases-loop-i l = l.count - l.i

@@ -15,35 +15,22 @@ use Rattle.passes.proofs.pass.Goals.{then-i-next, else-i-next}
 pub loop-i-init : goal.loop-i-init
 loop-i-init c = (refl, loop_start _ _ _ _ _ _ _ _ _ _ _ refl refl c.requires.areas, refl, c.requires.leaves_from)
 
-pub overflow_add-end : goal.overflow_add-end
-overflow_add-end c = let inside : c.loop-i.i < length c.args.rules.now / rule_width = omega (arith, c.loop-i.invariant.0, c.loop-i-test.true) in
+pub overflow_add-end-in-loop-i : goal.overflow_add-end-in-loop-i
+overflow_add-end-in-loop-i c = let inside : c.loop-i.i < length c.args.rules.now / rule_width = omega (arith, c.loop-i.invariant.0, c.loop-i-test.true) in
     let the-rule : let l = c.loop-i in Here c.requires.passing.table c.args.rules.now c.args.rows.now c.args.text.now l.i l.end = here c.loop-i.invariant.1 inside c.requires.passing.given c.requires.passing.lent c.requires.passing.table c.requires.passing.holds in
-    let h = the-rule in omega (arith, h.bound, h.next.count, c.wide-end.ensures)
+    let h = the-rule in omega (arith, h.bound, h.next.count)
 
 pub overflow_sub-end : goal.overflow_sub-end
 overflow_sub-end c = let inside : c.loop-i.i < length c.args.rules.now / rule_width = omega (arith, c.loop-i.invariant.0, c.loop-i-test.true) in
     let the-rule : let l = c.loop-i in Here c.requires.passing.table c.args.rules.now c.args.rows.now c.args.text.now l.i l.end = here c.loop-i.invariant.1 inside c.requires.passing.given c.requires.passing.lent c.requires.passing.table c.requires.passing.holds in
-    let h = the-rule in omega (arith, h.next.count, size_pos h.rule.body, c.wide-end.ensures)
+    let h = the-rule in omega (arith, h.next.count, size_pos h.rule.body)
 
-pub returns-in_default : goal.returns-in_default
-returns-in_default c = let inside : c.loop-i.i < length c.args.rules.now / rule_width = omega (arith, c.loop-i.invariant.0, c.loop-i-test.true) in
-    let its-end : let l = c.loop-i in l.end + c.wide-end.result ≡ l.end + get_or c.args.rules.now (l.i * rule_width + rows_word) 0 = omega (arith, c.wide-end.ensures) in
+pub returns-in_err-p : goal.returns-in_err-p
+returns-in_err-p c = let inside : c.loop-i.i < length c.args.rules.now / rule_width = omega (arith, c.loop-i.invariant.0, c.loop-i-test.true) in
+    let its-end : let l = c.loop-i in l.end + get_or c.args.rules.now (c.loop-i.i * rule_width + rows_word) 0 ≡ l.end + get_or c.args.rules.now (l.i * rule_width + rows_word) 0 = omega arith in
     let the-rule : let l = c.loop-i in Here c.requires.passing.table c.args.rules.now c.args.rows.now c.args.text.now l.i l.end = here c.loop-i.invariant.1 inside c.requires.passing.given c.requires.passing.lent c.requires.passing.table c.requires.passing.holds in
-    let its-root : let l = c.loop-i in l.end + c.wide-end.result - 1 + 1 ≡ l.end + c.wide-end.result = let h = the-rule in omega (arith, h.next.count, size_pos h.rule.body, c.wide-end.ensures) in
-    λ gs ts g x. loop_full c.loop-i.invariant.1 inside c.requires.passing.given c.requires.passing.lent {end' = c.loop-i.end + c.wide-end.result} _ _ _ c.in_default.is its-end its-root c.one_rule.ensures gs ts g x
-
-pub overflow_add-i-then-i-next : goal.overflow_add-i-then-i-next
-overflow_add-i-then-i-next c = let inside : c.loop-i.i < length c.args.rules.now / rule_width = omega (arith, c.loop-i.invariant.0, c.loop-i-test.true) in
-    let counted : c.loop-i.i + 1 ≤ length c.args.rules.now = omega (arith, inside) in
-    omega (arith, c.well_formed.1.1.1.1.1.0.0, counted)
-
-pub overflow_add-i-in-loop-i : goal.overflow_add-i-in-loop-i
-overflow_add-i-in-loop-i c = let inside : c.loop-i.i < length c.args.rules.now / rule_width = omega (arith, c.loop-i.invariant.0, c.loop-i-test.true) in
-    let counted : c.loop-i.i + 1 ≤ length c.args.rules.now = omega (arith, inside) in
-    omega (arith, c.well_formed.1.1.1.1.1.0.0, counted)
-
-pub loop-i-smaller : goal.loop-i-smaller
-loop-i-smaller c = omega (arith, c.loop-i-test.true)
+    let its-root : let l = c.loop-i in l.end + get_or c.args.rules.now (c.loop-i.i * rule_width + rows_word) 0 - 1 + 1 ≡ l.end + get_or c.args.rules.now (c.loop-i.i * rule_width + rows_word) 0 = let h = the-rule in omega (arith, h.next.count, size_pos h.rule.body) in
+    rw c.from_residual.ensures (λ gs ts g x. loop_full c.loop-i.invariant.1 inside c.requires.passing.given c.requires.passing.lent {end' = c.loop-i.end + get_or c.args.rules.now (c.loop-i.i * rule_width + rows_word) 0} _ _ _ c.in_err-p.was its-end its-root c.one_rule.ensures gs ts g x)
 
 pub returns : goal.returns
 returns c = let m : length c.args.rules.now / rule_width ≤ c.loop-i.i = omega (arith, c.loop-i.invariant.0, c.loop-i-test.false) in
@@ -56,9 +43,9 @@ one_rule-requires-clause-inside c = let inside : c.loop-i.i < length c.args.rule
 pub one_rule-requires-clause-stands : goal.one_rule-requires-clause-stands
 one_rule-requires-clause-stands c = let inside : c.loop-i.i < length c.args.rules.now / rule_width = omega (arith, c.loop-i.invariant.0, c.loop-i-test.true) in
     let the_rule : let l = c.loop-i in Here c.requires.passing.table c.args.rules.now c.args.rows.now c.args.text.now l.i l.end = here c.loop-i.invariant.1 inside c.requires.passing.given c.requires.passing.lent c.requires.passing.table c.requires.passing.holds in
-    let its_root : let l = c.loop-i in l.end + c.wide-end.result - 1 + 1 ≡ l.end + c.wide-end.result = let h = the_rule in omega (arith, h.next.count, size_pos h.rule.body, c.wide-end.ensures) in
+    let its_root : let l = c.loop-i in l.end + get_or c.args.rules.now (c.loop-i.i * rule_width + rows_word) 0 - 1 + 1 ≡ l.end + get_or c.args.rules.now (c.loop-i.i * rule_width + rows_word) 0 = let h = the_rule in omega (arith, h.next.count, size_pos h.rule.body) in
     let h = the_rule in
-    record { tree = h.rule.body; at = h.next.at _ (omega (arith, h.next.count, its_root, c.wide-end.ensures)) }
+    record { tree = h.rule.body; at = h.next.at _ (omega (arith, h.next.count, its_root)) }
 
 pub one_rule-requires-clause-room : goal.one_rule-requires-clause-room
 one_rule-requires-clause-room c =
@@ -72,17 +59,17 @@ one_rule-requires-clause-rule_ready c = let inside : c.loop-i.i < length c.args.
 pub one_rule-requires-clause-rule_prepared : goal.one_rule-requires-clause-rule_prepared
 one_rule-requires-clause-rule_prepared c = let inside : c.loop-i.i < length c.args.rules.now / rule_width = omega (arith, c.loop-i.invariant.0, c.loop-i-test.true) in
     let the_rule : let l = c.loop-i in Here c.requires.passing.table c.args.rules.now c.args.rows.now c.args.text.now l.i l.end = here c.loop-i.invariant.1 inside c.requires.passing.given c.requires.passing.lent c.requires.passing.table c.requires.passing.holds in
-    let its_end : let l = c.loop-i in l.end + c.wide-end.result ≡ l.end + get_or c.args.rules.now (l.i * rule_width + rows_word) 0 = omega (arith, c.wide-end.ensures) in
-    let its_root : let l = c.loop-i in l.end + c.wide-end.result - 1 + 1 ≡ l.end + c.wide-end.result = let h = the_rule in omega (arith, h.next.count, size_pos h.rule.body, c.wide-end.ensures) in
+    let its_end : let l = c.loop-i in l.end + get_or c.args.rules.now (c.loop-i.i * rule_width + rows_word) 0 ≡ l.end + get_or c.args.rules.now (l.i * rule_width + rows_word) 0 = omega arith in
+    let its_root : let l = c.loop-i in l.end + get_or c.args.rules.now (c.loop-i.i * rule_width + rows_word) 0 - 1 + 1 ≡ l.end + get_or c.args.rules.now (c.loop-i.i * rule_width + rows_word) 0 = let h = the_rule in omega (arith, h.next.count, size_pos h.rule.body) in
     let m = inside in
     rule_prepared c.loop-i.invariant.1 m c.requires.passing.given c.requires.passing.lent _ c.requires.passing _ (its_root ∙ its_end)
 
 pub one_rule-requires-clause-leaves : goal.one_rule-requires-clause-leaves
 one_rule-requires-clause-leaves c = let inside : c.loop-i.i < length c.args.rules.now / rule_width = omega (arith, c.loop-i.invariant.0, c.loop-i-test.true) in
     let the_rule : let l = c.loop-i in Here c.requires.passing.table c.args.rules.now c.args.rows.now c.args.text.now l.i l.end = here c.loop-i.invariant.1 inside c.requires.passing.given c.requires.passing.lent c.requires.passing.table c.requires.passing.holds in
-    let its_end : let l = c.loop-i in l.end + c.wide-end.result ≡ l.end + get_or c.args.rules.now (l.i * rule_width + rows_word) 0 = omega (arith, c.wide-end.ensures) in
-    let its_root : let l = c.loop-i in l.end + c.wide-end.result - 1 + 1 ≡ l.end + c.wide-end.result = let h = the_rule in omega (arith, h.next.count, size_pos h.rule.body, c.wide-end.ensures) in
-    let next_begins : let l = c.loop-i in l.end + c.wide-end.result ≡ rows_before c.args.rules.now (l.i + 1) = let l = c.loop-i in its_end ∙ before_step c.args.rules.now l.i l.end l.invariant.2 in
+    let its_end : let l = c.loop-i in l.end + get_or c.args.rules.now (c.loop-i.i * rule_width + rows_word) 0 ≡ l.end + get_or c.args.rules.now (l.i * rule_width + rows_word) 0 = omega arith in
+    let its_root : let l = c.loop-i in l.end + get_or c.args.rules.now (c.loop-i.i * rule_width + rows_word) 0 - 1 + 1 ≡ l.end + get_or c.args.rules.now (c.loop-i.i * rule_width + rows_word) 0 = let h = the_rule in omega (arith, h.next.count, size_pos h.rule.body) in
+    let next_begins : let l = c.loop-i in l.end + get_or c.args.rules.now (c.loop-i.i * rule_width + rows_word) 0 ≡ rows_before c.args.rules.now (l.i + 1) = let l = c.loop-i in its_end ∙ before_step c.args.rules.now l.i l.end l.invariant.2 in
     λ e. c.loop-i.invariant.3 _ (ltb-true _ _ e) (omega arith) _ (its_root ∙ next_begins)
 
 pub first_fired-next-requires-clause-held : goal.first_fired-next-requires-clause-held
@@ -91,16 +78,16 @@ first_fired-next-requires-clause-held c =
 
 pub first_fired-next-requires-clause-from_in_bounds : goal.first_fired-next-requires-clause-from_in_bounds
 first_fired-next-requires-clause-from_in_bounds c = let inside : c.loop-i.i < length c.args.rules.now / rule_width = omega (arith, c.loop-i.invariant.0, c.loop-i-test.true) in
-    let its_end : let l = c.loop-i in l.end + c.wide-end.result ≡ l.end + get_or c.args.rules.now (l.i * rule_width + rows_word) 0 = omega (arith, c.wide-end.ensures) in
-    let next_begins : let l = c.loop-i in l.end + c.wide-end.result ≡ rows_before c.args.rules.now (l.i + 1) = let l = c.loop-i in its_end ∙ before_step c.args.rules.now l.i l.end l.invariant.2 in
+    let its_end : let l = c.loop-i in l.end + get_or c.args.rules.now (c.loop-i.i * rule_width + rows_word) 0 ≡ l.end + get_or c.args.rules.now (l.i * rule_width + rows_word) 0 = omega arith in
+    let next_begins : let l = c.loop-i in l.end + get_or c.args.rules.now (c.loop-i.i * rule_width + rows_word) 0 ≡ rows_before c.args.rules.now (l.i + 1) = let l = c.loop-i in its_end ∙ before_step c.args.rules.now l.i l.end l.invariant.2 in
     (omega (arith, inside), next_begins)
 
 pub loop-i-preserved : goal.loop-i-preserved
 loop-i-preserved c = let inside : c.loop-i.i < length c.args.rules.now / rule_width = omega (arith, c.loop-i.invariant.0, c.loop-i-test.true) in
-    let its_end : let l = c.loop-i in l.end + c.wide-end.result ≡ l.end + get_or c.args.rules.now (l.i * rule_width + rows_word) 0 = omega (arith, c.wide-end.ensures) in
+    let its_end : let l = c.loop-i in l.end + get_or c.args.rules.now (c.loop-i.i * rule_width + rows_word) 0 ≡ l.end + get_or c.args.rules.now (l.i * rule_width + rows_word) 0 = omega arith in
     let the_rule : let l = c.loop-i in Here c.requires.passing.table c.args.rules.now c.args.rows.now c.args.text.now l.i l.end = here c.loop-i.invariant.1 inside c.requires.passing.given c.requires.passing.lent c.requires.passing.table c.requires.passing.holds in
-    let its_root : let l = c.loop-i in l.end + c.wide-end.result - 1 + 1 ≡ l.end + c.wide-end.result = let h = the_rule in omega (arith, h.next.count, size_pos h.rule.body, c.wide-end.ensures) in
-    let next_begins : let l = c.loop-i in l.end + c.wide-end.result ≡ rows_before c.args.rules.now (l.i + 1) = let l = c.loop-i in its_end ∙ before_step c.args.rules.now l.i l.end l.invariant.2 in
+    let its_root : let l = c.loop-i in l.end + get_or c.args.rules.now (c.loop-i.i * rule_width + rows_word) 0 - 1 + 1 ≡ l.end + get_or c.args.rules.now (c.loop-i.i * rule_width + rows_word) 0 = let h = the_rule in omega (arith, h.next.count, size_pos h.rule.body) in
+    let next_begins : let l = c.loop-i in l.end + get_or c.args.rules.now (c.loop-i.i * rule_width + rows_word) 0 ≡ rows_before c.args.rules.now (l.i + 1) = let l = c.loop-i in its_end ∙ before_step c.args.rules.now l.i l.end l.invariant.2 in
     let n : LeavesFrom c.args.step c.args.rules.now c.args.rows.now c.args.text.now (c.loop-i.i + 1) c.if-i-next.next =
     elim c.if-i-next.branch [ then-i-next w ↦ subst (LeavesFrom c.args.step c.args.rules.now c.args.rows.now c.args.text.now (c.loop-i.i + 1)) (sym w.next-is) w.first_fired-next.ensures.2 | else-i-next w ↦ subst (LeavesFrom c.args.step c.args.rules.now c.args.rows.now c.args.text.now (c.loop-i.i + 1)) (sym w.next-is) (λ j b a. c.loop-i.invariant.3 j b (omega (arith, a))) ] in
-    (c.loop-i.invariant.0, loop_next c.loop-i.invariant.1 inside c.requires.passing.given c.requires.passing.lent _ _ _ c.in-Done.is c.requires.passing.table c.requires.passing.holds c.requires.rules_in_bounds c.one_rule.auto.heads c.one_rule.auto.out c.one_rule.auto.lits its_end its_root c.one_rule.ensures, next_begins, n)
+    (c.loop-i.invariant.0, loop_next c.loop-i.invariant.1 inside c.requires.passing.given c.requires.passing.lent _ _ _ c.in_ok-p.was c.requires.passing.table c.requires.passing.holds c.requires.rules_in_bounds c.one_rule.auto.heads c.one_rule.auto.out c.one_rule.auto.lits its_end its_root c.one_rule.ensures, next_begins, n)

@@ -5,6 +5,9 @@ use Rattle.rows.proofs.Laws.{root}
 use Rattle.scans.proofs.Laws.{rows_stand}
 use Rattle.passes.proofs.quiet.Goals as goal
 
+pub overflow_add-i-end : goal.overflow_add-i-end
+overflow_add-i-end c = omega (arith, (root c.requires.stands.at).inside)
+
 pub loop-i-init : goal.loop-i-init
 loop-i-init c = let r = root c.requires.stands.at in
     (omega (arith, c.requires.root_value), omega (arith, c.requires.root_value, r.rows, r.least), r.inside, (λ j p q. rows_stand c.requires.stands.tree c.requires.stands.at j (omega (arith, r.rows)) p), λ j q s. absurd (omega (arith, c.requires.root_value)))

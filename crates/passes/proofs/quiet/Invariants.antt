@@ -1,6 +1,6 @@
 -- `quiet` meets its contract: no row that the loop passed is rewritten. Assumes nothing.
 -- each row of the tree ends a subtree, and none before row i is rewritten
-use Prim.Native.Nat.{ℕ, ◌+◌, ◌-◌, ◌/◌, ◌≤◌, ◌<◌}
+use Prim.Native.Nat.{ℕ, ◌+◌, ◌/◌, ◌≤◌, ◌<◌}
 use lib.ListN.{length}
 use Rattle.grammar.specs.Numbers.{row_width}
 use Rattle.rows.specs.Rows.{size_at, Stands}
@@ -9,6 +9,3 @@ use Rattle.passes.proofs.quiet.Given as goal
 
 abbrev pub invariant-loop-i : goal.invariant-loop-i
 invariant-loop-i l = (l.root < l.i + size_at l.rows l.root) × (l.i ≤ l.root + 1) × (l.root < length l.rows / row_width) × ((j : ℕ) → j ≤ l.root → l.root < j + size_at l.rows l.root → Stands l.rows j) × ((j : ℕ) → j < l.i → l.root < j + size_at l.rows l.root → Quiet l.step l.kind l.text l.rows j)
-
-abbrev pub decreases-loop-i : goal.decreases-loop-i
-decreases-loop-i l = l.root + 1 - l.i

@@ -7,8 +7,8 @@ use Rattle.passes.proofs.Walks.{ready_for, counted_for, given_for, settling_for,
 use Rattle.passes.proofs.Growth.{step_one, step_two, step_three, step_four, step_five, step_six, step_seven}
 use Rattle.passes.proofs.walk.Goals as goal
 
-pub returns-in_default : goal.returns-in_default
-returns-in_default c = λ gs r g a. absurd (root_there a (sym c.row_at.ensures ∙ c.in_default.is))
+pub returns-in_err-row_at : goal.returns-in_err-row_at
+returns-in_err-row_at c = λ gs r g a. absurd (root_there a (sym c.row_at.ensures ∙ c.in_err-row_at.was))
 
 pub rotate-requires-clause-inside : goal.rotate-requires-clause-inside
 rotate-requires-clause-inside c = c.requires.inside
@@ -110,6 +110,6 @@ pub returns-in-7 : goal.returns-in-7
 returns-in-7 c = λ gs r g a.
     exact_by c.restore.result _ 7 _ _ _ _ _ _ _ _ c.in-7.is (step_seven _ _ _ ∙ look_for c.requires.stands c.requires.prepared c.in-7.is gs _) (c.restore.ensures gs r (lent_for c.requires.stands c.requires.prepared c.in-7.is gs g) a)
 
-pub returns-in_default-step : goal.returns-in_default-step
-returns-in_default-step c = λ gs r g a.
+pub returns-in_default : goal.returns-in_default
+returns-in_default c = λ gs r g a.
     exact_by c.copy.result _ _ _ _ _ _ _ _ _ _ refl (other_step _ (λ e. omega (arith, e)) (λ e. omega (arith, e)) (λ e. omega (arith, e)) (λ e. omega (arith, e)) (λ e. omega (arith, e)) (λ e. omega (arith, e)) (λ e. omega (arith, e)) _ _ _) (c.copy.ensures r a)

@@ -11,9 +11,6 @@ returns-then-bad_counts c = refused_2 _ _ _ _ (sym c.bad_counts.ensures ∙ c.if
 pub returns-then-not-trees : goal.returns-then-not-trees
 returns-then-not-trees c = refused_3 _ _ _ (sym c.bad_counts.ensures ∙ c.if-bad_counts.false) _ (tells_no c.if-not-trees.true c.trees.ensures)
 
-pub bad_text-requires : goal.bad_text-requires
-bad_text-requires c = let k = counts c.args.rules.now c.args.rows.now c.args.text.now (sym c.bad_counts.ensures ∙ c.if-bad_counts.false) in (k.text_most, c.requires)
-
 pub returns-then-bad_text : goal.returns-then-bad_text
 returns-then-bad_text c = refused_4 _ _ _ (sym c.bad_counts.ensures ∙ c.if-bad_counts.false) (tells_yes c.if-not-trees.false c.trees.ensures) _ _ c.bad_text.ensures c.if-bad_text.true
 

@@ -1,17 +1,11 @@
 use mathlib.Core.Path.{refl, sym, subst, ◌∙◌}
-use mathlib.Core.Logic.{inl, inr}
-use Rattle.rows.proofs.Cells.{tells_yes, tells_no}
+use mathlib.Core.Logic.{inr}
+use Rattle.rows.proofs.Cells.{tells_yes}
 use Rattle.names.specs.Names.{AllIndexed, Ended}
 use Rattle.names.proofs.Marks.{ended}
 use Rattle.names.proofs.Index.{index_ends}
-use Rattle.refusals.proofs.Apart.{indexed_fine, twice_not}
+use Rattle.refusals.proofs.Apart.{indexed_fine}
 use Rattle.refusals.proofs.check_names.Goals as goal
-
-pub returns-then-not-index_names : goal.returns-then-not-index_names
-returns-then-not-index_names c = inl (refl, twice_not (c.index_names.ensures.no c.if-not-index_names.true))
-
-pub returns-then-not-none_reserved : goal.returns-then-not-none_reserved
-returns-then-not-none_reserved c = inl (refl, λ f. tells_no c.if-not-none_reserved.true c.none_reserved.ensures (λ i l. (f i l).free))
 
 pub returns-then-zero_counts : goal.returns-then-zero_counts
 returns-then-zero_counts c = inr (refl, indexed_fine (c.index_names.ensures.yes c.if-not-index_names.false) (tells_yes c.if-not-none_reserved.false c.none_reserved.ensures), sym c.zero_counts.ensures ∙ c.if-zero_counts.true)

@@ -1,10 +1,7 @@
 -- one byte more
-use Prim.Native.Nat.{ℕ, ◌-◌, ◌≤◌, ◌<◌}
+use Prim.Native.Nat.{ℕ, ◌≤◌, ◌<◌}
 use lib.ListN.{get_or}
 use Rattle.refusals.proofs.highest.Given as goal
 
 abbrev pub invariant-loop-i : goal.invariant-loop-i
-invariant-loop-i l = (l.p ≤ l.i) × (l.i ≤ l.stop) × ((j : ℕ) → l.p ≤ j → j < l.i → get_or l.text j 0 ≤ l.m)
-
-abbrev pub decreases-loop-i : goal.decreases-loop-i
-decreases-loop-i l = l.stop - l.i
+invariant-loop-i l = (j : ℕ) → l.p ≤ j → j < l.i → get_or l.text j 0 ≤ l.m

@@ -1,9 +1,6 @@
-use Prim.Native.Nat.{ℕ, ◌-◌, ◌≤◌, ◌<◌}
+use Prim.Native.Nat.{ℕ, ◌≤◌, ◌<◌}
 use lib.ListN.{get_or}
 use Rattle.refusals.proofs.next_high.Given as goal
 
 abbrev pub invariant-loop-i : goal.invariant-loop-i
-invariant-loop-i l = (l.p ≤ l.i) × (l.i ≤ l.stop) × ((j : ℕ) → l.p ≤ j → j < l.i → get_or l.text j 0 ≤ 127)
-
-abbrev pub decreases-loop-i : goal.decreases-loop-i
-decreases-loop-i l = l.stop - l.i
+invariant-loop-i l = (j : ℕ) → l.p ≤ j → j < l.i → get_or l.text j 0 ≤ 127

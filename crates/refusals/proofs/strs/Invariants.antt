@@ -1,10 +1,7 @@
 use mathlib.Core.Path.{◌≡◌}
-use Prim.Native.Nat.{ℕ, ◌-◌, ◌≤◌, ◌<◌}
+use Prim.Native.Nat.{ℕ, ◌≤◌, ◌<◌}
 use Rattle.rows.specs.Rows.{kind_at}
 use Rattle.refusals.proofs.strs.Given as goal
 
 abbrev pub invariant-loop-j : goal.invariant-loop-j
-invariant-loop-j l = (l.from ≤ l.j) × (l.j ≤ l.to) × ((m : ℕ) → l.from ≤ m → m < l.j → kind_at l.rows m ≡ 0)
-
-abbrev pub decreases-loop-j : goal.decreases-loop-j
-decreases-loop-j l = l.to - l.j
+invariant-loop-j l = (m : ℕ) → l.from ≤ m → m < l.j → kind_at l.rows m ≡ 0

@@ -1,4 +1,4 @@
-use Prim.Native.Nat.{◌-◌, ◌*◌, ◌/◌, ◌≤◌}
+use Prim.Native.Nat.{◌*◌, ◌/◌, ◌≤◌}
 use lib.ListN.{length, drop}
 use Rattle.grammar.specs.Numbers.{rule_width, row_width}
 use Rattle.refusals.specs.Local.{up_to, IsTable}
@@ -8,6 +8,3 @@ abbrev pub invariant-loop-i : goal.invariant-loop-i
 invariant-loop-i l = (l.i ≤ length l.rules / rule_width) × (l.from ≤ length l.rows / row_width)
     × (IsTable (up_to l.most) l.rules l.rows → IsTable (up_to l.most) (drop (l.i * rule_width) l.rules) (drop (l.from * row_width) l.rows))
     × (IsTable (up_to l.most) (drop (l.i * rule_width) l.rules) (drop (l.from * row_width) l.rows) → IsTable (up_to l.most) l.rules l.rows)
-
-abbrev pub decreases-loop-i : goal.decreases-loop-i
-decreases-loop-i l = length l.rules / rule_width - l.i

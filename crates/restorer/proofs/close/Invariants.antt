@@ -4,6 +4,3 @@ use Rattle.restorer.proofs.close.Given as goal
 
 abbrev pub invariant-loop-p : goal.invariant-loop-p
 invariant-loop-p l = Closing l.initial.marks l.marks l.stack l.from l.top l.to l.p
-
-abbrev pub decreases-loop-p : goal.decreases-loop-p
-decreases-loop-p l = l.p

@@ -18,4 +18,4 @@ returns-then-state-lt-OPEN c = simp (ne_eqb _ _ c.if-state-eq-YES.false, ne_eqb 
 
 pub returns : goal.returns
 unfolding recalled
-returns c = simp (ne_eqb _ _ c.if-state-eq-YES.false, ne_eqb _ _ c.if-state-eq-UNSEEN.false, le-leb OPEN _ c.if-state-lt-OPEN.false, c.wide.ensures)
+returns c = simp (ne_eqb _ _ c.if-state-eq-YES.false, ne_eqb _ _ c.if-state-eq-UNSEEN.false, le-leb OPEN _ c.if-state-lt-OPEN.false)

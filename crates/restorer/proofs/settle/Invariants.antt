@@ -1,12 +1,6 @@
 -- The invariant: the rules passed are settled, and none is left on the stack. Assumes nothing.
-use Prim.Native.Nat.{◌-◌, ◌/◌}
-use lib.ListN.{length}
-use Rattle.grammar.specs.Numbers.{rule_width}
 use Rattle.restorer.proofs.Ends.{Settling}
 use Rattle.restorer.proofs.settle.Given as goal
 
 abbrev pub invariant-loop-i : goal.invariant-loop-i
 invariant-loop-i l = Settling l.rules l.rows l.text l.initial.marks l.marks l.initial.stack l.stack l.i
-
-abbrev pub decreases-loop-i : goal.decreases-loop-i
-decreases-loop-i l = length l.rules / rule_width - l.i

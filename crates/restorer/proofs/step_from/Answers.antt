@@ -1,20 +1,31 @@
 -- By the tests that led there. Assumes nothing.
-use borrow.Author.Tests.{eq-eqb, ne_eqb}
+use borrow.Author.Tests.{ne_eqb}
 use Rattle.restorer.specs.Walks.{step_from}
+use mathlib.Core.Path.{◌≡◌, refl}
+use mathlib.Core.Logic.{◌⊎◌, inl, inr}
+use Prim.Native.Nat.{ℕ, ◌+◌, ◌-◌}
+use Rattle.restorer.specs.Search.{nowhere}
+use Rattle.restorer.specs.declared.Step.TheVariants.{Next}
+use Rattle.std.proofs.Common.{◌≢◌}
+use native.Mathlib.Omega.{arith}
 use Rattle.restorer.proofs.step_from.Goals as goal
 
-pub returns-then-kind-eq-PUSH : goal.returns-then-kind-eq-PUSH
+passed : {k : ℕ} (i n : ℕ) → (k ≡ 17) ⊎ (k ≡ 19) → Next (i + 1 - n) nowhere ≡ step_from k i n
 unfolding step_from
-returns-then-kind-eq-PUSH c = simp (eq-eqb _ _ c.if-kind-eq-PUSH.true)
+passed i n (inl e) = rw e
+passed i n (inr e) = rw e
 
-pub returns-then-kind-eq-SKIP : goal.returns-then-kind-eq-SKIP
+pub returns-in-18 : goal.returns-in-18
 unfolding step_from
-returns-then-kind-eq-SKIP c = simp (ne_eqb _ _ c.if-kind-eq-PUSH.false, eq-eqb _ _ c.if-kind-eq-SKIP.true)
+returns-in-18 c = rw c.in-18.is refl
 
-pub returns-then-kind-eq-RESTORE_ON_ERR : goal.returns-then-kind-eq-RESTORE_ON_ERR
-unfolding step_from
-returns-then-kind-eq-RESTORE_ON_ERR c = simp (ne_eqb _ _ c.if-kind-eq-PUSH.false, ne_eqb _ _ c.if-kind-eq-SKIP.false, eq-eqb _ _ c.if-kind-eq-RESTORE_ON_ERR.true)
+pub returns-in-17 : goal.returns-in-17
+returns-in-17 c = passed _ _ c.in-17.is
 
-pub returns : goal.returns
+pub returns-in_default : goal.returns-in_default
 unfolding step_from
-returns c = simp (ne_eqb _ _ c.if-kind-eq-PUSH.false, ne_eqb _ _ c.if-kind-eq-SKIP.false, ne_eqb _ _ c.if-kind-eq-RESTORE_ON_ERR.false)
+returns-in_default c = let k = c.args.kind in
+    let a : k ≢ 18 = grind arith in
+    let b : k ≢ 17 = grind arith in
+    let d : k ≢ 19 = grind arith in
+    simp (ne_eqb _ _ a, ne_eqb _ _ b, ne_eqb _ _ d)

@@ -1,7 +1,7 @@
 -- The rows of the table, one by one. Assumes nothing.
 -- no row before row i changes the stack by itself
 use mathlib.Core.Path.{◌≡◌}
-use Prim.Native.Nat.{ℕ, ◌-◌, ◌/◌, ◌≤◌, ◌<◌}
+use Prim.Native.Nat.{ℕ, ◌/◌, ◌≤◌, ◌<◌}
 use lib.ListN.{length}
 use Rattle.grammar.specs.Numbers.{row_width}
 use Rattle.restorer.proofs.Calms.{Calm}
@@ -9,6 +9,3 @@ use Rattle.restorer.proofs.still.Given as goal
 
 abbrev pub invariant-loop-i : goal.invariant-loop-i
 invariant-loop-i l = (l.count ≡ length l.rows / row_width) × (l.i ≤ l.count) × ((j : ℕ) → j < l.i → Calm l.text l.rows j)
-
-abbrev pub decreases-loop-i : goal.decreases-loop-i
-decreases-loop-i l = l.count - l.i

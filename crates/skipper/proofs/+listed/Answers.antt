@@ -5,7 +5,6 @@ use Rattle.rows.proofs.Laws.{root}
 use Rattle.skipper.specs.Skips.{is_list}
 use Rattle.skipper.proofs.Leaf.{read_found_lem, choice_view, choice_left}
 use Rattle.skipper.proofs.Spelling.{and_stop, leaf_in, list_choice}
-use Rattle.skipper.proofs.Skipping.{choice_node}
 use Rattle.skipper.proofs.+listed.Goals as goal
 
 pub kind_at-requires : goal.kind_at-requires
@@ -13,20 +12,6 @@ kind_at-requires t c = (root c.requires.stands.at).inside
 
 pub returns-then-kind_at-ne-CHOICE : goal.returns-then-kind_at-ne-CHOICE
 returns-then-kind_at-ne-CHOICE t c = λ u r l a. c.leaf_listed.ensures u r l a ∙ ap is_list (sym (leaf_in _ _ (read_found_lem a c.kind_at.ensures) a c.if-kind_at-ne-CHOICE.true))
-
-pub left_of-requires-clause-stands : goal.left_of-requires-clause-stands
-left_of-requires-clause-stands t c = c.requires.stands
-
-pub left_of-requires-clause-root_value : goal.left_of-requires-clause-root_value
-left_of-requires-clause-root_value t c = choice_node c.requires.stands.at c.kind_at.ensures c.if-kind_at-ne-CHOICE.false
-
-pub leaf_listed-requires-2-clause-all_indexed : goal.leaf_listed-requires-2-clause-all_indexed
-leaf_listed-requires-2-clause-all_indexed t c =
-    c.requires.all_indexed
-
-pub leaf_listed-requires-2-clause-inside : goal.leaf_listed-requires-2-clause-inside
-leaf_listed-requires-2-clause-inside t c =
-    c.requires.inside
 
 pub leaf_listed-requires-2-clause-stands : goal.leaf_listed-requires-2-clause-stands
 leaf_listed-requires-2-clause-stands t c = let a = c.requires.stands.at in
@@ -47,7 +32,7 @@ returns-then-leaf_listed t c = λ u r l a.
     sym (list_choice _ _ (read_found_lem a c.kind_at.ensures) a c.if-kind_at-ne-CHOICE.false ∙ ap₂ ◌&&◌ x (sym (c.listed.ensures u v.right l v.at_right)))
 
 pub returns-else-leaf_listed : goal.returns-else-leaf_listed
-returns-else-leaf_listed t c = λ u r l a.
+returns-else-leaf_listed t c = λ u r l a. c.if-leaf_listed.false ∙ (
     let v = choice_view (read_found_lem a c.kind_at.ensures) a c.if-kind_at-ne-CHOICE.false in
     let x = sym (c.leaf_listed-2.ensures u v.left l (choice_left (read_found_lem a c.kind_at.ensures) a c.if-kind_at-ne-CHOICE.false c.left_of.ensures)) ∙ c.if-leaf_listed.false in
-    sym (list_choice _ _ (read_found_lem a c.kind_at.ensures) a c.if-kind_at-ne-CHOICE.false ∙ and_stop _ _ x)
+    sym (list_choice _ _ (read_found_lem a c.kind_at.ensures) a c.if-kind_at-ne-CHOICE.false ∙ and_stop _ _ x))

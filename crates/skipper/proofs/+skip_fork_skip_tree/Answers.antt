@@ -1,20 +1,14 @@
-use mathlib.Core.Path.{◌≡◌, sym, ap, ◌∙◌}
+use mathlib.Core.Path.{◌≡◌, ap, ◌∙◌}
 use mathlib.Core.List.{[]}
 use Prim.Native.Nat.{◌+◌, ◌-◌}
 use native.Mathlib.Omega.{arith}
-use Rattle.grammar.specs.Basic.{Bytes}
-use Rattle.grammar.specs.Rows.{Span}
-use Rattle.grammar.specs.Tree.{Expr}
 use Rattle.grammar.specs.Text.{resolve}
-use Rattle.grammar.specs.Table.{Table, resolve_table}
-use Rattle.rows.specs.Rows.{At, x_at, y_at, size_at}
+use Rattle.grammar.specs.Table.{resolve_table}
 use Rattle.rows.proofs.Laws.{root}
-use Rattle.rows.proofs.Views.{TwoView}
 use Rattle.writing.proofs.Trees.{done_written}
 use Rattle.chains.specs.Runs.{wrap}
-use Rattle.skipper.specs.Skips.{node_of}
-use Rattle.skipper.proofs.Leaf.{read_found_lem, left_stands, left_below}
-use Rattle.skipper.proofs.Skipping.{skipped, loop_skips, settles_list, two_view, two_skipped, settles_first, settles_second}
+use Rattle.skipper.proofs.Leaf.{left_stands, left_below}
+use Rattle.skipper.proofs.Skipping.{skipped, loop_skips, settles_list, fork_view, fork_half, fork_skipped, settles_first, settles_second}
 use Rattle.skipper.proofs.Forks.{forking_none, forking_less, forking_more, forking_all, forking_child, forking_room, forking_full, forking_rising, forking_done}
 use Rattle.skipper.proofs.Falls.{fits_wrap, fell_plain, fell_loop, fell_fork, fell_at, fell_size}
 use Rattle.skipper.proofs.Words.{led_by}
@@ -23,50 +17,29 @@ use Rattle.skipper.proofs.+skip_fork_skip_tree.Goals as goal
 pub skip_fork-left_of-child-requires-clause-stands : goal.skip_fork-left_of-child-requires-clause-stands
 skip_fork-left_of-child-requires-clause-stands t c = record { tree = c.requires.settling.tree; at = c.requires.settling.at }
 
-pub skip_fork-left_of-child-requires-clause-root_value : goal.skip_fork-left_of-child-requires-clause-root_value
-skip_fork-left_of-child-requires-clause-root_value t c = ap node_of (sym c.requires.kind_value.0) ∙ c.requires.kind_value.1
+pub skip_fork-left_of-child-requires-clause-i_value : goal.skip_fork-left_of-child-requires-clause-i_value
+skip_fork-left_of-child-requires-clause-i_value t c = fork_half c.args.text.now [] c.requires.settling.at c.requires.kind_value
 
 pub skip_fork-overflow_sub-next : goal.skip_fork-overflow_sub-next
-skip_fork-overflow_sub-next t c = let fork_view : (u : Table Bytes) (r : Expr Span) → let w = c.args.rows.now in let i = c.args.base in At w i r → TwoView w i c.args.kind (x_at w i) (y_at w i) (size_at w i) r = λ u r a. two_view c.args.text.now u (read_found_lem a c.requires.kind_value.0) a c.requires.kind_value.1 in
-    let v = fork_view [] c.requires.settling.tree c.requires.settling.at in omega (arith, v.most, v.least_left)
+skip_fork-overflow_sub-next t c = let v = fork_view c.args.text.now [] c.requires.settling.at c.requires.kind_value in omega (arith, v.most, v.least_left)
 
 pub skip_fork-loop-child-init : goal.skip_fork-loop-child-init
-skip_fork-loop-child-init t c = let fork_view : (u : Table Bytes) (r : Expr Span) → let w = c.args.rows.now in let i = c.args.base in At w i r → TwoView w i c.args.kind (x_at w i) (y_at w i) (size_at w i) r = λ u r a. two_view c.args.text.now u (read_found_lem a c.requires.kind_value.0) a c.requires.kind_value.1 in
-    let v = fork_view [] c.requires.settling.tree c.requires.settling.at in let e : c.args.base - 1 + 1 ≡ c.args.base = omega (arith, v.most, v.least_left) in forking_none _ e
-
-pub skip_fork-shape_of-out-in_default : goal.skip_fork-shape_of-out-in_default
-skip_fork-shape_of-out-in_default t c = c.skip_tree.auto.out ∙ c.loop-child.invariant.same_words
+skip_fork-loop-child-init t c = let v = fork_view c.args.text.now [] c.requires.settling.at c.requires.kind_value in let e : c.args.base - 1 + 1 ≡ c.args.base = omega (arith, v.most, v.least_left) in forking_none _ e
 
 pub skip_fork-loop-child-preserved : goal.skip_fork-loop-child-preserved
-skip_fork-loop-child-preserved t c = forking_more c.loop-child.invariant c.loop-child-test.true c.skip_tree.auto.out c.skip_tree.auto.lits (λ u x l a st. done_written _ _ _ _ _ _ c.in-Done.is (c.skip_tree.ensures u x l a st))
+skip_fork-loop-child-preserved t c = forking_more c.loop-child.invariant c.loop-child-test.true c.skip_tree.auto.out c.skip_tree.auto.lits (λ u x l a st. done_written _ _ _ _ _ _ c.in_ok-q.was (c.skip_tree.ensures u x l a st))
 
 pub skip_fork-crown-requires : goal.skip_fork-crown-requires
-skip_fork-crown-requires t c = let fork_view : (u : Table Bytes) (r : Expr Span) → let w = c.args.rows.now in let i = c.args.base in At w i r → TwoView w i c.args.kind (x_at w i) (y_at w i) (size_at w i) r = λ u r a. two_view c.args.text.now u (read_found_lem a c.requires.kind_value.0) a c.requires.kind_value.1 in
-    let v = fork_view [] c.requires.settling.tree c.requires.settling.at in
+skip_fork-crown-requires t c = let v = fork_view c.args.text.now [] c.requires.settling.at c.requires.kind_value in
     let e = c.left_of-child.ensures in
     let z = forking_all c.loop-child.invariant c.loop-child-test.false (left_below v e) in
     forking_rising (z.first c.requires.settling.table v.left c.requires.settling.lent (left_stands v e) (settles_first _ v c.requires.settling.settles)) (z.second c.requires.settling.table v.right c.requires.settling.lent v.at_right (settles_second _ v c.requires.settling.settles)) c.requires.room.areas c.requires.base_le_root
 
-pub skip_fork-shape_of-out : goal.skip_fork-shape_of-out
-skip_fork-shape_of-out t c = c.crown.auto.out ∙ c.loop-child.invariant.same_words
-
-pub skip_tree-fall-requires-clause-all_indexed : goal.skip_tree-fall-requires-clause-all_indexed
-skip_tree-fall-requires-clause-all_indexed t c = c.requires.given.index
-
-pub skip_tree-fall-requires-clause-inside : goal.skip_tree-fall-requires-clause-inside
-skip_tree-fall-requires-clause-inside t c = c.requires.inside
-
 pub skip_tree-fall-requires-clause-stands : goal.skip_tree-fall-requires-clause-stands
 skip_tree-fall-requires-clause-stands t c = record { tree = c.requires.settling.tree; at = c.requires.settling.at }
 
-pub skip_tree-copy-requires-clause-inside : goal.skip_tree-copy-requires-clause-inside
-skip_tree-copy-requires-clause-inside t c = c.requires.inside
-
 pub skip_tree-copy-requires-clause-stands : goal.skip_tree-copy-requires-clause-stands
 skip_tree-copy-requires-clause-stands t c = record { tree = c.requires.settling.tree; at = c.requires.settling.at }
-
-pub skip_tree-copy-requires-clause-room : goal.skip_tree-copy-requires-clause-room
-skip_tree-copy-requires-clause-room t c = c.requires.room
 
 pub skip_tree-skip_loop-requires-clause-skipped : goal.skip_tree-skip_loop-requires-clause-skipped
 skip_tree-skip_loop-requires-clause-skipped t c = let k = fell_loop _ _ _ _ _ _ (c.fall.ensures c.requires.settling.table c.requires.settling.tree c.requires.settling.lent.heads c.requires.settling.at c.requires.settling.settles) c.in-Looped.is in
@@ -94,38 +67,34 @@ skip_tree-returns-in-Forked t c = λ u r l a st.
     rw k.fell.skips (c.skip_fork.ensures u k.fell.nodes k.fell.tree l k.fell.at k.fell.settles (fell_at k.fell a) k.fell.count)
 
 pub skip_fork-skip_tree-requires : goal.skip_fork-skip_tree-requires
-skip_fork-skip_tree-requires t c = let fork_view : (u : Table Bytes) (r : Expr Span) → let w = c.args.rows.now in let i = c.args.base in At w i r → TwoView w i c.args.kind (x_at w i) (y_at w i) (size_at w i) r = λ u r a. two_view c.args.text.now u (read_found_lem a c.requires.kind_value.0) a c.requires.kind_value.1 in
-    let y = c.args.text.now in
-    let v = fork_view [] c.requires.settling.tree c.requires.settling.at in
+skip_fork-skip_tree-requires t c = let y = c.args.text.now in
+    let v = fork_view c.args.text.now [] c.requires.settling.at c.requires.kind_value in
     let j = left_stands v c.left_of-child.ensures in
     let k = forking_child c.loop-child.invariant y v j c.requires.settling.settles c.loop-child-test.true in (
       omega (arith, c.decreases, (root k.at).rows, (root c.requires.settling.at).rows, k.least),
       (c.requires.given, (c.requires.inside, (record { table = c.requires.settling.table; lent = c.requires.settling.lent; tree = k.tree; at = k.at; settles = k.settles }, forking_room c.loop-child.invariant y v j c.requires.settling.settles c.loop-child-test.true (λ q o₁ b₁ z. z c.requires.settling.table v.left c.requires.settling.lent j (settles_first _ v c.requires.settling.settles)) c.requires.room))),
     )
 
-pub skip_fork-returns-in_default : goal.skip_fork-returns-in_default
-skip_fork-returns-in_default t c = let fork_view : (u : Table Bytes) (r : Expr Span) → let w = c.args.rows.now in let i = c.args.base in At w i r → TwoView w i c.args.kind (x_at w i) (y_at w i) (size_at w i) r = λ u r a. two_view c.args.text.now u (read_found_lem a c.requires.kind_value.0) a c.requires.kind_value.1 in
-    λ u us r l a st i e f.
+pub skip_fork-returns-in_err-q : goal.skip_fork-returns-in_err-q
+skip_fork-returns-in_err-q t c = rw c.from_residual.ensures (λ u us r l a st i e f.
     let y = c.args.text.now in
     let x = resolve_table c.args.given_text.now u in
-    let v = fork_view x r a in
+    let v = fork_view y x a c.requires.kind_value in
     let j = left_stands v c.left_of-child.ensures in
-    let g = rw (two_skipped y x (read_found_lem a c.requires.kind_value.0) a c.requires.kind_value.1) at (fits_wrap us f) in
-    forking_full c.loop-child.invariant y v j st c.loop-child-test.true (λ q o₁ b₁ z. z u v.left l j (settles_first _ v st)) c.skip_tree.new.out c.skip_tree.new.lits (λ x k w. c.skip_tree.ensures u x l k w) c.in_default.is g
+    let g = rw (fork_skipped y x a c.requires.kind_value) at (fits_wrap us f) in
+    forking_full c.loop-child.invariant y v j st c.loop-child-test.true (λ q o₁ b₁ z. z u v.left l j (settles_first _ v st)) c.skip_tree.new.out c.skip_tree.new.lits (λ x k w. c.skip_tree.ensures u x l k w) c.in_err-q.was g)
 
 pub skip_fork-loop-child-smaller : goal.skip_fork-loop-child-smaller
-skip_fork-loop-child-smaller t c = let fork_view : (u : Table Bytes) (r : Expr Span) → let w = c.args.rows.now in let i = c.args.base in At w i r → TwoView w i c.args.kind (x_at w i) (y_at w i) (size_at w i) r = λ u r a. two_view c.args.text.now u (read_found_lem a c.requires.kind_value.0) a c.requires.kind_value.1 in
-    let v = fork_view [] c.requires.settling.tree c.requires.settling.at in let h = c.loop-child-test.true in omega (arith, forking_less c.loop-child.invariant (left_below v c.left_of-child.ensures) h, h)
+skip_fork-loop-child-smaller t c = let v = fork_view c.args.text.now [] c.requires.settling.at c.requires.kind_value in let h = c.loop-child-test.true in omega (arith, forking_less c.loop-child.invariant (left_below v c.left_of-child.ensures) h, h)
 
 pub skip_fork-returns : goal.skip_fork-returns
-skip_fork-returns t c = let fork_view : (u : Table Bytes) (r : Expr Span) → let w = c.args.rows.now in let i = c.args.base in At w i r → TwoView w i c.args.kind (x_at w i) (y_at w i) (size_at w i) r = λ u r a. two_view c.args.text.now u (read_found_lem a c.requires.kind_value.0) a c.requires.kind_value.1 in
-    λ u us r l a st i e.
+skip_fork-returns t c = λ u us r l a st i e.
     let y = c.args.text.now in
     let x = resolve_table c.args.given_text.now u in
-    let v = fork_view x r a in
+    let v = fork_view y x a c.requires.kind_value in
     let j = c.left_of-child.ensures in
     let z = forking_all c.loop-child.invariant c.loop-child-test.false (left_below v j) in
-    c.crown.ensures us r i e (skipped x (resolve y r)) _ _ _ (λ b o' d. forking_done (two_skipped y x (read_found_lem a c.requires.kind_value.0) a c.requires.kind_value.1) (z.first u v.left l (left_stands v j) (settles_first _ v st)) (z.second u v.right l v.at_right (settles_second _ v st)) b _ o' v.kind d)
+    c.crown.ensures us r i e (skipped x (resolve y r)) _ _ _ (λ b o' d. forking_done (fork_skipped y x a c.requires.kind_value) (z.first u v.left l (left_stands v j) (settles_first _ v st)) (z.second u v.right l v.at_right (settles_second _ v st)) b _ o' v.kind d)
 
 pub skip_tree-skip_loop-requires-clause-led : goal.skip_tree-skip_loop-requires-clause-led
 skip_tree-skip_loop-requires-clause-led t c = led_by c.requires.given c.requires.settling.lent c.requires.settling.settles.targets

@@ -8,7 +8,7 @@ abbrev pub decreases-skip_fork : goal.decreases-skip_fork
 decreases-skip_fork l = 2 * size_at l.rows.now l.base
 
 abbrev pub invariant-skip_fork-loop-child : goal.invariant-skip_fork-loop-child
-invariant-skip_fork-loop-child l = Forking (Walked l.given_rules l.given_rows l.given_text l.marks l.rows l.text) l.initial.child l.base l.p l.initial.out l.initial.lits l.out l.lits l.child l.next l.at l.end
+invariant-skip_fork-loop-child l = Forking (Walked l.given_rules l.given_rows l.given_text l.marks l.rows l.text) l.initial.child l.base l.p l.initial.out l.initial.lits l.out l.lits l.child l.next l.q
 
 abbrev pub decreases-skip_fork-loop-child : goal.decreases-skip_fork-loop-child
 decreases-skip_fork-loop-child l = l.base - l.child

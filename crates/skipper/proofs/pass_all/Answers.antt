@@ -6,19 +6,9 @@ use Rattle.skipper.proofs.pass_all.Goals as goal
 pub loop-i-init : goal.loop-i-init
 loop-i-init c = record { high = omega arith; long = refl; relisted = relisted_none _; targets = λ t e h. h }
 
-pub pass_on-requires-clause-memory_word_in_bounds : goal.pass_on-requires-clause-memory_word_in_bounds
-pass_on-requires-clause-memory_word_in_bounds c = let inv = c.loop-i.invariant in
-    omega (arith, c.requires.mark_width_in_bounds, inv.long, c.loop-i-test.true)
-
 pub pass_on-requires-clause-memory_word_in_bounds_2 : goal.pass_on-requires-clause-memory_word_in_bounds_2
 pass_on-requires-clause-memory_word_in_bounds_2 c = let inv = c.loop-i.invariant in
     omega (arith, c.requires.mark_width_in_bounds, inv.long, leading_within _ (leading_on c.requires.leading inv.targets) c.loop-i-test.true)
-
-pub overflow_add-i : goal.overflow_add-i
-overflow_add-i c = omega (arith, c.loop-i-test.true)
-
-pub loop-i-smaller : goal.loop-i-smaller
-loop-i-smaller c = omega (arith, c.loop-i-test.true)
 
 pub loop-i-preserved : goal.loop-i-preserved
 loop-i-preserved c = let inv = c.loop-i.invariant in
@@ -28,14 +18,3 @@ loop-i-preserved c = let inv = c.loop-i.invariant in
       relisted = relisted_more inv.relisted c.pass_on.ensures.relisted;
       targets = λ t e h. c.pass_on.ensures.targets t (omega (arith, c.loop-i-test.true)) (inv.targets t e h);
     }
-
-pub shape_of-marks : goal.shape_of-marks
-shape_of-marks c = c.loop-i.invariant.long
-
-pub returns-clause-relisted : goal.returns-clause-relisted
-returns-clause-relisted c = let inv = c.loop-i.invariant in
-    inv.relisted
-
-pub returns-clause-targets : goal.returns-clause-targets
-returns-clause-targets c = let inv = c.loop-i.invariant in
-    inv.targets

@@ -3,17 +3,5 @@ use Rattle.rows.proofs.Laws.{found_row}
 use Rattle.rows.proofs.Cells.{in_text, lit_shape}
 use Rattle.skipper.proofs.put_str.Goals as goal
 
-pub x_at-requires : goal.x_at-requires
-x_at-requires c = c.requires.root_in_bounds
-
-pub y_at-requires : goal.y_at-requires
-y_at-requires c = c.requires.root_in_bounds
-
 pub put_lit-requires-clause-n_in_bounds : goal.put_lit-requires-clause-n_in_bounds
 put_lit-requires-clause-n_in_bounds c = rw (c.x_at.ensures, c.y_at.ensures) (in_text _ c.requires.inside (found_row _ _ c.requires.root_in_bounds) (rw c.requires.root_value (lit_shape Str)))
-
-pub put_lit-requires-clause-room : goal.put_lit-requires-clause-room
-put_lit-requires-clause-room c = c.requires.room
-
-pub returns : goal.returns
-returns c = rw (c.x_at.ensures, c.y_at.ensures) at c.put_lit.ensures

@@ -1,31 +1,26 @@
 -- the marks are cleared
-use Rattle.skipper.specs.Lends.{Given}
+use Rattle.std.proofs.lemmas.Result.{err_from_is_err_and}
 use Rattle.skipper.proofs.Leaf.{given_steady}
-use Rattle.skipper.proofs.Tables.{cleared_given, all_met, all_read}
+use Rattle.skipper.proofs.Tables.{forgotten, all_met, all_read}
 use Rattle.skipper.proofs.read_lists.Goals as goal
 
-pub read_rules-a-requires : goal.read_rules-a-requires
-read_rules-a-requires c = let fresh : Given c.args.rules.now c.args.rows.now c.args.text.now c.forget.new.marks = rw c.forget.ensures (cleared_given c.requires) in
-    fresh
+pub read_rules-requires : goal.read_rules-requires
+read_rules-requires c = forgotten c.requires c.forget.ensures
 
 pub shorten-requires : goal.shorten-requires
-shorten-requires c = let fresh : Given c.args.rules.now c.args.rows.now c.args.text.now c.forget.new.marks = rw c.forget.ensures (cleared_given c.requires) in
-    let read : Given c.args.rules.now c.args.rows.now c.args.text.now c.read_rules-a.new.marks = given_steady fresh c.read_rules-a.ensures.ran.steady c.read_rules-a.auto.marks in
-    read
+shorten-requires c = given_steady (forgotten c.requires c.forget.ensures) c.read_rules.ensures.steady c.read_rules.auto.marks
 
-pub returns-then-a-eq-AGAIN-clause-given : goal.returns-then-a-eq-AGAIN-clause-given
-returns-then-a-eq-AGAIN-clause-given c = let fresh : Given c.args.rules.now c.args.rows.now c.args.text.now c.forget.new.marks = rw c.forget.ensures (cleared_given c.requires) in
-    given_steady fresh c.read_rules-a.ensures.ran.steady c.read_rules-a.auto.marks
+pub returns-in_err-read_rules-clause-given : goal.returns-in_err-read_rules-clause-given
+returns-in_err-read_rules-clause-given c = given_steady (forgotten c.requires c.forget.ensures) c.read_rules.ensures.steady c.read_rules.auto.marks
 
-pub returns-then-a-eq-AGAIN-clause-lists_answer : goal.returns-then-a-eq-AGAIN-clause-lists_answer
-returns-then-a-eq-AGAIN-clause-lists_answer c =
-    λ u l. all_met c.requires u l (rw c.forget.ensures at (c.read_rules-a.ensures.loops_of u l)) c.if-a-eq-AGAIN.true
+pub returns-in_err-read_rules-clause-lists_answer : goal.returns-in_err-read_rules-clause-lists_answer
+returns-in_err-read_rules-clause-lists_answer c =
+    let p = err_from_is_err_and c.from_residual.result c.from_residual.ensures.1 in
+    rw (p.1, p.2) (λ u l. all_met c.requires u l (rw c.forget.ensures at (c.read_rules.ensures.loops_of u l)) c.in_err-read_rules.was)
 
-pub returns-else-a-eq-AGAIN-clause-given : goal.returns-else-a-eq-AGAIN-clause-given
-returns-else-a-eq-AGAIN-clause-given c = let fresh : Given c.args.rules.now c.args.rows.now c.args.text.now c.forget.new.marks = rw c.forget.ensures (cleared_given c.requires) in
-    let read : Given c.args.rules.now c.args.rows.now c.args.text.now c.read_rules-a.new.marks = given_steady fresh c.read_rules-a.ensures.ran.steady c.read_rules-a.auto.marks in
-    given_steady read c.shorten.ensures.relisted.steady c.shorten.auto.marks
+pub returns-clause-given : goal.returns-clause-given
+returns-clause-given c = given_steady (given_steady (forgotten c.requires c.forget.ensures) c.read_rules.ensures.steady c.read_rules.auto.marks) c.shorten.ensures.relisted.steady c.shorten.auto.marks
 
-pub returns-else-a-eq-AGAIN-clause-lists_answer : goal.returns-else-a-eq-AGAIN-clause-lists_answer
-returns-else-a-eq-AGAIN-clause-lists_answer c =
-    λ u l. all_read c.requires u l (rw c.forget.ensures at (c.read_rules-a.ensures.loops_of u l)) c.if-a-eq-AGAIN.false c.shorten.ensures.relisted (c.shorten.ensures.targets u l)
+pub returns-clause-lists_answer : goal.returns-clause-lists_answer
+returns-clause-lists_answer c =
+    λ u l. all_read c.requires u l (rw c.forget.ensures at (c.read_rules.ensures.loops_of u l)) c.in_ok-read_rules.was c.shorten.ensures.relisted (c.shorten.ensures.targets u l)

@@ -1,9 +1,5 @@
-use Prim.Native.Nat.{◌-◌}
 use Rattle.skipper.proofs.Settles.{RowsRead}
 use Rattle.skipper.proofs.read_loops.Given as goal
 
 abbrev pub invariant-loop-i : goal.invariant-loop-i
 invariant-loop-i l = RowsRead l.rules l.rows l.text l.initial.marks l.marks l.from l.end l.i
-
-abbrev pub decreases-loop-i : goal.decreases-loop-i
-decreases-loop-i l = l.end - l.i

@@ -1,5 +1,5 @@
 use mathlib.Core.Path.{◌≡◌}
-use Prim.Native.Nat.{◌-◌, ◌/◌}
+use Prim.Native.Nat.{◌/◌}
 use lib.ListN.{length}
 use Rattle.grammar.specs.Numbers.{rule_width}
 use Rattle.skipper.proofs.Tables.{RulesRead}
@@ -7,6 +7,3 @@ use Rattle.skipper.proofs.read_rules.Given as goal
 
 abbrev pub invariant-loop-k : goal.invariant-loop-k
 invariant-loop-k l = (l.count ≡ length l.rules / rule_width) × RulesRead l.rules l.rows l.text l.initial.marks l.marks l.k
-
-abbrev pub decreases-loop-k : goal.decreases-loop-k
-decreases-loop-k l = l.count - l.k

@@ -1,18 +1,6 @@
 use Rattle.skipper.proofs.Skipping.{skip_atomic, skip_other}
 use Rattle.skipper.proofs.skip.Goals as goal
 
-pub skip_tree-requires-clause-given : goal.skip_tree-requires-clause-given
-skip_tree-requires-clause-given c = c.requires.given
-
-pub skip_tree-requires-clause-inside : goal.skip_tree-requires-clause-inside
-skip_tree-requires-clause-inside c = c.requires.inside
-
-pub skip_tree-requires-clause-settling : goal.skip_tree-requires-clause-settling
-skip_tree-requires-clause-settling c = c.requires.settling c.if-rule_type-eq-ATOMIC.true
-
-pub skip_tree-requires-clause-room : goal.skip_tree-requires-clause-room
-skip_tree-requires-clause-room c = c.requires.room
-
 pub returns-then-rule_type-eq-ATOMIC : goal.returns-then-rule_type-eq-ATOMIC
 returns-then-rule_type-eq-ATOMIC c = λ u r l a st. rw (skip_atomic _ _ _ c.if-rule_type-eq-ATOMIC.true) (c.skip_tree.ensures u r l a (st c.if-rule_type-eq-ATOMIC.true))
 

@@ -1,34 +1,31 @@
-use mathlib.Core.Path.{◌≡◌, ◌∙◌}
-use Prim.Native.Nat.{◌-◌, ◌≤◌}
-use native.Mathlib.Nat.{min-eq_left, min-eq_right}
+use mathlib.Core.Path.{refl, ◌∙◌}
+use Rattle.std.proofs.Common.{◌≢◌}
 use native.Mathlib.Omega.{arith}
-use borrow.Author.Tests.{eq-eqb, ne_eqb}
+use borrow.Author.Tests.{ne_eqb}
 use Rattle.unroller.specs.Items.{items_for}
 use Rattle.unroller.proofs.items_for.Goals as goal
 
-pub returns-then-kind-eq-REP_ONCE : goal.returns-then-kind-eq-REP_ONCE
+pub returns-in-12 : goal.returns-in-12
 unfolding items_for
-returns-then-kind-eq-REP_ONCE c = c.counts.ensures ∙ simp (eq-eqb _ _ c.if-kind-eq-REP_ONCE.true)
+returns-in-12 c = c.counts.ensures ∙ rw c.in-12.is refl
 
-pub returns-then-kind-eq-REP_EXACT : goal.returns-then-kind-eq-REP_EXACT
+pub returns-in-13 : goal.returns-in-13
 unfolding items_for
-returns-then-kind-eq-REP_EXACT c = c.counts-then-kind-eq-REP_EXACT.ensures ∙ simp (ne_eqb _ _ c.if-kind-eq-REP_ONCE.false, eq-eqb _ _ c.if-kind-eq-REP_EXACT.true)
+returns-in-13 c = c.counts-in-13.ensures ∙ rw c.in-13.is refl
 
-pub returns-then-kind-eq-REP_MIN : goal.returns-then-kind-eq-REP_MIN
+pub returns-in-14 : goal.returns-in-14
 unfolding items_for
-returns-then-kind-eq-REP_MIN c = c.counts-then-kind-eq-REP_MIN.ensures ∙ simp (ne_eqb _ _ c.if-kind-eq-REP_ONCE.false, ne_eqb _ _ c.if-kind-eq-REP_EXACT.false, eq-eqb _ _ c.if-kind-eq-REP_MIN.true)
+returns-in-14 c = c.counts-in-14.ensures ∙ rw c.in-14.is refl
 
-pub returns-then-kind-eq-REP_MAX : goal.returns-then-kind-eq-REP_MAX
+pub returns-in-15 : goal.returns-in-15
 unfolding items_for
-returns-then-kind-eq-REP_MAX c = c.counts-then-kind-eq-REP_MAX.ensures ∙ simp (ne_eqb _ _ c.if-kind-eq-REP_ONCE.false, ne_eqb _ _ c.if-kind-eq-REP_EXACT.false, ne_eqb _ _ c.if-kind-eq-REP_MIN.false, eq-eqb _ _ c.if-kind-eq-REP_MAX.true)
+returns-in-15 c = c.counts-in-15.ensures ∙ rw c.in-15.is refl
 
-pub returns-then-n-m : goal.returns-then-n-m
+pub returns-in_default : goal.returns-in_default
 unfolding items_for
-returns-then-n-m c = let h : c.args.x ≤ c.args.y = omega arith in
-    c.counts-then-n-m.ensures ∙ simp (ne_eqb _ _ c.if-kind-eq-REP_ONCE.false, ne_eqb _ _ c.if-kind-eq-REP_EXACT.false, ne_eqb _ _ c.if-kind-eq-REP_MIN.false, ne_eqb _ _ c.if-kind-eq-REP_MAX.false, min-eq_left h)
-
-pub returns-else-n-m : goal.returns-else-n-m
-unfolding items_for
-returns-else-n-m c = let h : c.args.y ≤ c.args.x = omega arith in
-    let z : c.args.y - c.args.x ≡ 0 = omega arith in
-    c.counts-else-n-m.ensures ∙ simp (ne_eqb _ _ c.if-kind-eq-REP_ONCE.false, ne_eqb _ _ c.if-kind-eq-REP_EXACT.false, ne_eqb _ _ c.if-kind-eq-REP_MIN.false, ne_eqb _ _ c.if-kind-eq-REP_MAX.false, min-eq_right h, z)
+returns-in_default c = let k = c.args.kind in
+    let a : k ≢ 12 = omega arith in
+    let b : k ≢ 13 = omega arith in
+    let d : k ≢ 14 = omega arith in
+    let e : k ≢ 15 = omega arith in
+    c.counts-in_default.ensures ∙ simp (c.min.ensures, c.saturating_sub.ensures, ne_eqb _ _ a, ne_eqb _ _ b, ne_eqb _ _ d, ne_eqb _ _ e)

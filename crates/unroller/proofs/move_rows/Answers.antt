@@ -1,4 +1,4 @@
-use mathlib.Core.Path.{◌≡◌, refl, sym, subst, ◌∙◌}
+use mathlib.Core.Path.{refl, sym, subst, ◌∙◌}
 use mathlib.Core.List.{List}
 use Prim.Native.Nat.{ℕ, ◌+◌}
 use native.Mathlib.Omega.{arith}
@@ -11,10 +11,6 @@ pub loop-k-init : goal.loop-k-init
 unfolding stored
 loop-k-init c = (omega arith, refl, refl)
 
-pub move_row-requires-clause-i_in_bounds : goal.move_row-requires-clause-i_in_bounds
-move_row-requires-clause-i_in_bounds c =
-    (omega (arith, c.requires.n_bound), omega (arith, c.requires.n_bound))
-
 pub move_row-requires-clause-movable : goal.move_row-requires-clause-movable
 move_row-requires-clause-movable c = let k = c.loop-k.k in
     let v = c.loop-k.invariant in
@@ -23,9 +19,3 @@ move_row-requires-clause-movable c = let k = c.loop-k.k in
 pub loop-k-preserved : goal.loop-k-preserved
 loop-k-preserved c = let l = c.loop-k in
     (omega arith, c.move_row.auto.out ∙ l.invariant.1, move_more c.args.d c.args.out.now l.out _ c.args.i c.args.j l.k (omega arith) l.invariant.2 c.move_row.ensures)
-
-pub shape_of-out : goal.shape_of-out
-shape_of-out c = c.loop-k.invariant.1
-
-pub returns : goal.returns
-returns c = let e : c.loop-k.k ≡ c.args.n = omega arith in rw (← e) c.loop-k.invariant.2

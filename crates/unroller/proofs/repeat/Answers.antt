@@ -1,4 +1,4 @@
-use mathlib.Core.Path.{◌≡◌, refl, ◌∙◌}
+use mathlib.Core.Path.{refl, ◌∙◌}
 use native.Mathlib.Omega.{arith}
 use Rattle.unroller.specs.Items.{item_of}
 use Rattle.unroller.proofs.Lays.{source_put, laid_none, laid_more, repeat_copyable}
@@ -12,12 +12,3 @@ next-s-requires c = repeat_copyable {k = c.loop-i.i} c.requires (omega arith) (c
 
 pub loop-i-preserved : goal.loop-i-preserved
 loop-i-preserved c = (omega arith, c.next-s.auto.out ∙ c.loop-i.invariant.1, c.next-s.auto.lits ∙ c.loop-i.invariant.2, λ e h. laid_more c.loop-i.i (item_of c.args.item e) (c.loop-i.invariant.3 e h) (c.next-s.ensures e (source_put h c.requires.behind c.requires.beyond (c.loop-i.invariant.3 e h))))
-
-pub shape_of-out : goal.shape_of-out
-shape_of-out c = c.loop-i.invariant.1
-
-pub shape_of-lits : goal.shape_of-lits
-shape_of-lits c = c.loop-i.invariant.2
-
-pub returns : goal.returns
-returns c = let e : c.loop-i.i ≡ c.args.n = omega arith in rw (← e) c.loop-i.invariant.3

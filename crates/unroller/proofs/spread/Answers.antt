@@ -1,9 +1,8 @@
 -- `spread` meets its contract. Assumes nothing.
-use mathlib.Core.Path.{◌≡◌, refl}
+use mathlib.Core.Path.{◌≡◌}
 use Prim.Native.Nat.{◌-◌}
 use native.Mathlib.Omega.{arith}
 use lib.ListN.{length}
-use Rattle.grammar.specs.Tree.{Seq}
 use Rattle.rows.proofs.Cells.{tells_yes, tells_no}
 use Rattle.unroller.specs.Items.{items_of, count_of}
 use Rattle.unroller.proofs.Lays.{source_rows}
@@ -23,10 +22,6 @@ returns-then-not-hold c = λ e s f. tells_no c.if-not-hold.true c.hold.ensures (
 pub lay-s-requires : goal.lay-s-requires
 lay-s-requires c = let n = c.args.n in
     nest_lay n c.requires.source c.requires.least c.requires.areas (holds_fit n c.requires.source c.requires.least (tells_yes c.if-not-hold.false c.hold.ensures))
-
-pub close-requires-clause-bin : goal.close-requires-clause-bin
-close-requires-clause-bin c =
-    record { op = Seq; is = refl }
 
 pub close-requires-clause-closable : goal.close-requires-clause-closable
 close-requires-clause-closable c = let n = c.args.n in

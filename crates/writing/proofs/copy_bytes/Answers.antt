@@ -1,23 +1,11 @@
-use mathlib.Core.Path.{◌≡◌, refl}
-use Prim.Native.Nat.{◌+◌, ◌<◌}
+use mathlib.Core.Path.{◌≡◌}
+use Prim.Native.Nat.{◌+◌, ◌-◌}
 use native.Mathlib.Omega.{arith}
-use lib.ListN.{length, length-set}
-use Rattle.writing.specs.Writes.{stored}
-use Rattle.writing.proofs.Runs.{copy_more}
+use Rattle.rows.proofs.Laws.{length_part}
+use Rattle.writing.proofs.Runs.{part_stored}
 use Rattle.writing.proofs.copy_bytes.Goals as goal
 
-pub loop-i-init : goal.loop-i-init
-unfolding stored
-loop-i-init c = (omega arith, refl, refl)
-
-pub loop-i-preserved : goal.loop-i-preserved
-loop-i-preserved c = let l = c.loop-i in
-    let a = c.args in
-    let h : a.x + l.i < length a.src.now = omega arith in
-    (omega arith, simp length-set l.invariant.1, rw l.invariant.2 (copy_more _ _ _ _ _ h))
-
-pub shape_of-dst : goal.shape_of-dst
-shape_of-dst c = c.loop-i.invariant.1
-
 pub returns : goal.returns
-returns c = let e : c.loop-i.i ≡ c.args.n = omega arith in rw (← e) c.loop-i.invariant.2
+returns c = let a = c.args in
+    let n : a.at + a.n - a.at ≡ a.n = omega arith in
+    rw (n, c.copy_from_slice.ensures.after, c.part.ensures) (part_stored a.dst.now _ a.at a.n (length_part _ a.x a.n c.requires.0) c.requires.1)

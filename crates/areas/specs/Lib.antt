@@ -1,2 +1,0 @@
--- What the contracts of `areas` cite.
-pub mod Counts

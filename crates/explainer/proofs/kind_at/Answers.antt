@@ -1,8 +1,0 @@
--- `kind_at` meets its contract: the row's first word. Assumes nothing.
-use Rattle.rows.specs.Rows.{kind_at}
-use borrow.Author.Rules.{rules}
-use Rattle.explainer.proofs.kind_at.Goals as goal
-
-pub returns : goal.returns
-unfolding kind_at
-returns c = search rules

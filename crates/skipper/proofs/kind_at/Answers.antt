@@ -1,8 +1,0 @@
--- `kind_at` meets its contract. Assumes nothing.
-use Rattle.rows.specs.Rows.{kind_at}
-use borrow.Author.Rules.{rules}
-use Rattle.skipper.proofs.kind_at.Goals as goal
-
-pub returns : goal.returns
-unfolding kind_at
-returns c = search rules
