@@ -7,7 +7,7 @@ ghost use Rattle.grammar.specs.Refusals.{full_marks};
 ghost use Rattle.refusals.specs.Check.{lent, Passed};
 ghost use Rattle.admission.specs.Ready.{short_of, Tried, Admitted};
 
-use grammar::Refusal;
+use grammar::{LentTable, Refusal};
 use refusals::{FULL_MARKS, FULL_ROWS, FULL_RULES, FULL_TEXT};
 
 // Whether an output or work table of these lengths is below full size.
@@ -39,36 +39,25 @@ pub fn any_short(
 }
 
 // Refusals 7 and 8 of the input, of a table past refusal 6.
-fn lists_and_size(
-    rules: &[u32],
-    rows: &[u32],
-    text: &[u8],
-    marks: &mut [u32],
-) -> Result<(), Refusal>
-    requires { Passed (lent rules.now rows.now text.now) marks.old }
-    ensures { Tried (number_in result) (lent rules.now rows.now text.now) marks.new }
+fn lists_and_size(table: &LentTable, marks: &mut [u32]) -> Result<(), Refusal>
+    requires { Passed (lent table.now.rules.now table.now.rows.now table.now.text.now) marks.old }
+    ensures { Tried (number_in result) (lent table.now.rules.now table.now.rows.now table.now.text.now) marks.new }
 {
-    skipper::read_lists(rules, rows, text, marks)?;
-    if FULL_TEXT < packing::text_size(rules, rows) {
+    skipper::read_lists(table, marks)?;
+    if FULL_TEXT < packing::text_size(table) {
         return Err(Refusal::Full);
     }
     Ok(())
 }
 
 // The lowest refusal that a call meets before the first step; where there is none, the marks settle the skip lists.
-pub fn refusal(
-    short: bool,
-    rules: &[u32],
-    rows: &[u32],
-    text: &[u8],
-    marks: &mut [u32],
-) -> Result<(), Refusal>
+pub fn refusal(short: bool, table: &LentTable, marks: &mut [u32]) -> Result<(), Refusal>
     requires { short ≡ false → full_marks ≤ length marks.old }
-    ensures { Admitted short (number_in result) (lent rules.now rows.now text.now) marks.new }
+    ensures { Admitted short (number_in result) (lent table.now.rules.now table.now.rows.now table.now.text.now) marks.new }
 {
     if short {
         return Err(Refusal::Area);
     }
-    refusals::check(rules, rows, text, marks)?;
-    lists_and_size(rules, rows, text, marks)
+    refusals::check(table, marks)?;
+    lists_and_size(table, marks)
 }

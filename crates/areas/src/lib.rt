@@ -4,7 +4,7 @@
 
 ghost use Rattle.std.specs.Prelude.{◌≡◌, ◌*◌, ◌≤◌, length, take, drop};
 
-use grammar::{ROW_WIDTH, RULE_WIDTH, Refusal};
+use grammar::{LentTable, ROW_WIDTH, RULE_WIDTH, Refusal};
 use optimizer::Answer;
 use refusals::{FULL_MARKS, FULL_ROWS, FULL_RULES, FULL_TEXT};
 
@@ -19,13 +19,6 @@ pub const TEXT_AREA: usize = 65552;
 pub const WORD: u32 = 0xA5A5A5A5;
 
 pub const BYTE: u8 = 0xA5;
-
-#[derive(Clone, Copy)]
-pub struct Table<'a> {
-    pub rules: &'a [u32],
-    pub rows: &'a [u32],
-    pub text: &'a [u8],
-}
 
 // The three areas of one table.
 #[derive(Drop)]
@@ -45,12 +38,12 @@ impl Areas {
     }
 
     // The table that an answer left in them.
-    pub fn table(&self, a: Answer) -> Table<'_>
+    pub fn table(&self, a: Answer) -> LentTable<'_>
         ensures rules { result.rules.now ≡ take (4 * a.rules) self.now.rules }
         ensures rows { result.rows.now ≡ take (4 * a.rows) self.now.rows }
         ensures text { result.text.now ≡ take a.text self.now.text }
     {
-        Table {
+        LentTable {
             rules: cut(&self.rules, RULE_WIDTH * a.rules as usize).0,
             rows: cut(&self.rows, ROW_WIDTH * a.rows as usize).0,
             text: cut(&self.text, a.text as usize).0,
@@ -92,14 +85,12 @@ impl Lend {
 }
 
 // The call, with work areas of its own.
-pub fn answer(lend: Lend, t: Table<'_>, out: &mut Areas) -> Result<Answer, Refusal> {
+pub fn answer(lend: Lend, t: LentTable<'_>, out: &mut Areas) -> Result<Answer, Refusal> {
     let mut a = Areas::new();
     let mut b = Areas::new();
     let mut marks = [WORD; RULES_AREA];
     optimizer::optimize(
-        t.rules,
-        t.rows,
-        t.text,
+        &t,
         lend.part(&mut out.rules, FULL_RULES, 1),
         lend.part(&mut out.rows, FULL_ROWS, 2),
         lend.part(&mut out.text, FULL_TEXT, 3),

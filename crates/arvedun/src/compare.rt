@@ -5,6 +5,8 @@ ghost use Rattle.comparison.specs.Compare.{compare_words};
 ghost use Rattle.comparison.specs.Shown.{shown};
 ghost use Rattle.arvedun.specs.Compare.{seen_list, seen_literal};
 
+use grammar::LentTable;
+
 // What comparing answers: the refusal's number or 0, whose table it is (0 left, 1 right), and the number of entries.
 #[repr(C)]
 #[derive(Clone, Copy)]
@@ -37,17 +39,17 @@ pub extern "C" fn arvedun_compare(
 ) -> ArvedunCompared
     ensures { seen_list result list.new ≡ compare_words (lent left_rules.now left_rows.now left_text.now) (lent right_rules.now right_rows.now right_text.now) list.old left_marks.old right_marks.old }
 {
-    match comparer::compare(
-        left_rules,
-        left_rows,
-        left_text,
-        right_rules,
-        right_rows,
-        right_text,
-        list,
-        left_marks,
-        right_marks,
-    ) {
+    let left = LentTable {
+        rules: left_rules,
+        rows: left_rows,
+        text: left_text,
+    };
+    let right = LentTable {
+        rules: right_rules,
+        rows: right_rows,
+        text: right_text,
+    };
+    match comparer::compare(&left, &right, list, left_marks, right_marks) {
         Ok(count) => ArvedunCompared {
             number: 0,
             side: 0,
@@ -75,17 +77,17 @@ pub extern "C" fn arvedun_shown(
 ) -> ArvedunLiteral
     ensures { seen_literal result ≡ shown (lent left_rules.now left_rows.now left_text.now) (lent right_rules.now right_rows.now right_text.now) side rule row }
 {
-    match comparer::place(
-        left_rules,
-        left_rows,
-        left_text,
-        right_rules,
-        right_rows,
-        right_text,
-        side,
-        rule,
-        row,
-    ) {
+    let left = LentTable {
+        rules: left_rules,
+        rows: left_rows,
+        text: left_text,
+    };
+    let right = LentTable {
+        rules: right_rules,
+        rows: right_rows,
+        text: right_text,
+    };
+    match comparer::place(&left, &right, side, rule, row) {
         Some(l) => ArvedunLiteral {
             found: 1,
             offset: l.offset,

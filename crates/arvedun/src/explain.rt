@@ -4,6 +4,8 @@ ghost use Rattle.refusals.specs.Check.{lent};
 ghost use Rattle.explanation.specs.Explain.{explain_words};
 ghost use Rattle.arvedun.specs.Explain.{seen_explained};
 
+use grammar::LentTable;
+
 // What explaining answers: the refusal's number or 0; the answer, the rule and the row at which the reading ended, the rule met again, and how many
 // were being read then.
 #[repr(C)]
@@ -28,7 +30,7 @@ pub extern "C" fn arvedun_explain(
 ) -> ArvedunExplained
     ensures { seen_explained result list.new ≡ explain_words (lent rules.now rows.now text.now) row list.old marks.old }
 {
-    match explainer::explain(rules, rows, text, row, list, marks) {
+    match explainer::explain(&LentTable { rules, rows, text }, row, list, marks) {
         Ok(a) => ArvedunExplained {
             number: 0,
             answer: a.answer as u32,

@@ -10,6 +10,7 @@ ghost use Rattle.grammar.specs.Optimize.{optimize};
 ghost use Rattle.refusals.specs.Check.{lent};
 ghost use Rattle.arvedun.specs.Host.{seen};
 
+use grammar::LentTable;
 use optimizer::REPORT;
 
 // What a call answers: the refusal's number or 0, the counts, and for each step the rows before and after it.
@@ -42,8 +43,17 @@ pub extern "C" fn arvedun_optimize(
     ensures { seen result (lent out_rules.new out_rows.new out_text.new) ≡ optimize (lent rules.now rows.now text.now) (lent out_rules.old out_rows.old out_text.old) (lent a_rules.old a_rows.old a_text.old) (lent b_rules.old b_rows.old b_text.old) marks.old }
 {
     match optimizer::optimize(
-        rules, rows, text, out_rules, out_rows, out_text, a_rules, a_rows, a_text, b_rules, b_rows,
-        b_text, marks,
+        &LentTable { rules, rows, text },
+        out_rules,
+        out_rows,
+        out_text,
+        a_rules,
+        a_rows,
+        a_text,
+        b_rules,
+        b_rows,
+        b_text,
+        marks,
     ) {
         Ok(a) => {
             let report = a.report;

@@ -173,6 +173,10 @@ up_none {w} {o₀} {base} {root} {q} h = record {
 }
 
 module _ {w o₀ : List ℕ} {base root first : ℕ} {q : Place} {o : List ℕ} {at i : ℕ} (u : Up w o₀ base root first q o at i) where
+  -- there is room for the row of row i + 1
+  pub up_room : {p : Place} → Raisable w base root p q o₀ → i < root → at < length o / row_width
+  up_room z m = omega (arith, z.run, z.room, u.end, u.same, m)
+
   pub up_more : {k x y n : ℕ} {o₁ : List ℕ} → i < root → Found w (i + 1) k x y n → at < length o / row_width → first ≤ at → o₁ ≡ stored o (at * row_width) (row (k, x, y) (at + 1 - first)) → Up w o₀ base root first q o₁ (at + 1) (i + 1)
   up_more {k} {x} {y} {o₁} h g l f z = record {
     low = omega (arith, u.low);

@@ -20,7 +20,9 @@ ghost use Rattle.comparer.specs.Pairs.{Paired, PairedOne, Kept};
 ghost use Rattle.comparer.specs.Lists.{SameRun, differs_at, sort_number, SideChecked, Sound, Standing, RuleIs, Added, unmet_from, seen};
 ghost use Rattle.comparer.specs.Shows.{seen_lit, Begins};
 
-use grammar::{IDENT, INSENS, LENGTH, MARK_WIDTH, ROW_WIDTH, ROWS, RULE_WIDTH, Refusal, STR, TYPE};
+use grammar::{
+    IDENT, INSENS, LENGTH, LentTable, MARK_WIDTH, ROW_WIDTH, ROWS, RULE_WIDTH, Refusal, STR, TYPE,
+};
 use names::{END, MEMORY};
 use refusals::FULL_MARKS;
 
@@ -65,22 +67,14 @@ pub struct Literal {
 }
 
 // How many of n rows of one table from i and of another from j are the same before the first that is not.
-fn same_run(
-    rows1: &[u32],
-    text1: &[u8],
-    i: usize,
-    rows2: &[u32],
-    text2: &[u8],
-    j: usize,
-    n: usize,
-) -> usize
-    requires n_in_bounds { (i + n ≤ length rows1.now / row_width) × (j + n ≤ length rows2.now / row_width) }
-    requires by_index { (k : ℕ) → k < n → LitInside rows1.now (length text1.now) (i + k) }
-    requires by_index_2 { (k : ℕ) → k < n → LitInside rows2.now (length text2.now) (j + k) }
-    ensures { SameRun text1.now rows1.now i text2.now rows2.now j n result }
+fn same_run(one: &LentTable, i: usize, other: &LentTable, j: usize, n: usize) -> usize
+    requires n_in_bounds { (i + n ≤ length one.now.rows.now / row_width) × (j + n ≤ length other.now.rows.now / row_width) }
+    requires by_index { (k : ℕ) → k < n → LitInside one.now.rows.now (length one.now.text.now) (i + k) }
+    requires by_index_2 { (k : ℕ) → k < n → LitInside other.now.rows.now (length other.now.text.now) (j + k) }
+    ensures { SameRun one.now.text.now one.now.rows.now i other.now.text.now other.now.rows.now j n result }
 {
     for k in 0..n {
-        if !rows::same_row(rows1, text1, i + k, rows2, text2, j + k) {
+        if !rows::same_row(one, i + k, other, j + k) {
             return k;
         }
     }
@@ -88,22 +82,15 @@ fn same_run(
 }
 
 // Where the trees of row i of one table and row j of another differ.
-fn first_difference(
-    rows1: &[u32],
-    text1: &[u8],
-    i: usize,
-    rows2: &[u32],
-    text2: &[u8],
-    j: usize,
-) -> Option<usize>
-    requires stands_in { StandsIn rows1.now i (length text1.now) }
-    requires stands_in_2 { StandsIn rows2.now j (length text2.now) }
-    ensures { (r s : Expr Span) → At rows1.now i r → At rows2.now j s → differs_at result ≡ first_unlike (cells (resolve text1.now r)) (cells (resolve text2.now s)) }
+fn first_difference(one: &LentTable, i: usize, other: &LentTable, j: usize) -> Option<usize>
+    requires stands_in { StandsIn one.now.rows.now i (length one.now.text.now) }
+    requires stands_in_2 { StandsIn other.now.rows.now j (length other.now.text.now) }
+    ensures { (r s : Expr Span) → At one.now.rows.now i r → At other.now.rows.now j s → differs_at result ≡ first_unlike (cells (resolve one.now.text.now r)) (cells (resolve other.now.text.now s)) }
 {
-    let n = rows::size_at(rows1, i);
-    let m = rows::size_at(rows2, j);
+    let n = rows::size_at(one.rows, i);
+    let m = rows::size_at(other.rows, j);
     let least = n.min(m);
-    let k = same_run(rows1, text1, i + 1 - n, rows2, text2, j + 1 - m, least);
+    let k = same_run(one, i + 1 - n, other, j + 1 - m, least);
     if k == least && n == m { None } else { Some(k) }
 }
 
@@ -137,28 +124,24 @@ fn list_type(
 
 // The entries of left rule i and right rule j, which have one name, from entry n on: the type's first.
 fn list_common(
-    left_rules: &[u32],
-    left_rows: &[u32],
-    left_text: &[u8],
+    left: &LentTable,
     left_marks: &[u32],
-    right_rules: &[u32],
-    right_rows: &[u32],
-    right_text: &[u8],
+    right: &LentTable,
     right_marks: &[u32],
     i: usize,
     j: usize,
     list: &mut [u32],
     n: usize,
 ) -> usize
-    requires side { Sound left_rules.now left_rows.now left_text.now left_marks.now }
-    requires side_2 { Sound right_rules.now right_rows.now right_text.now right_marks.now }
-    requires i_in_bounds { (i < length left_rules.now / rule_width) × (j < length right_rules.now / rule_width) × (n + 2 ≤ length list.old / entry_width) }
-    ensures { (x y : Rule Span) → RuleIs left_rules.now left_rows.now i x → RuleIs right_rules.now right_rows.now j y → Added result n (common_entries i j (resolve_rule left_text.now x) (resolve_rule right_text.now y)) list.old list.new }
+    requires side { Sound left.now.rules.now left.now.rows.now left.now.text.now left_marks.now }
+    requires side_2 { Sound right.now.rules.now right.now.rows.now right.now.text.now right_marks.now }
+    requires i_in_bounds { (i < length left.now.rules.now / rule_width) × (j < length right.now.rules.now / rule_width) × (n + 2 ≤ length list.old / entry_width) }
+    ensures { (x y : Rule Span) → RuleIs left.now.rules.now left.now.rows.now i x → RuleIs right.now.rules.now right.now.rows.now j y → Added result n (common_entries i j (resolve_rule left.now.text.now x) (resolve_rule right.now.text.now y)) list.old list.new }
 {
-    let m = list_type(left_rules, right_rules, i, j, list, n);
+    let m = list_type(left.rules, right.rules, i, j, list, n);
     let a = left_marks[i * MARK_WIDTH + END] as usize - 1;
     let b = right_marks[j * MARK_WIDTH + END] as usize - 1;
-    match first_difference(left_rows, left_text, a, right_rows, right_text, b) {
+    match first_difference(left, a, right, b) {
         None => m,
         Some(k) => put(list, m, Sort::OtherTree, i as u32, j as u32, k as u32),
     }
@@ -166,36 +149,28 @@ fn list_common(
 
 // The entries of left rule i, from entry n on.
 fn list_rule(
-    left_rules: &[u32],
-    left_rows: &[u32],
-    left_text: &[u8],
+    left: &LentTable,
     left_marks: &[u32],
-    right_rules: &[u32],
-    right_rows: &[u32],
-    right_text: &[u8],
+    right: &LentTable,
     right_marks: &[u32],
     i: usize,
     list: &mut [u32],
     n: usize,
 ) -> usize
-    requires side { Sound left_rules.now left_rows.now left_text.now left_marks.now }
-    requires side_2 { Sound right_rules.now right_rows.now right_text.now right_marks.now }
-    requires paired { Paired (length left_rules.now / rule_width) left_rules.now left_text.now right_rules.now right_text.now left_marks.now right_marks.now }
-    requires i_in_bounds { (i < length left_rules.now / rule_width) × (n + 2 ≤ length list.old / entry_width) }
-    ensures { (x : Rule Span) (u : Table Span) → RuleIs left_rules.now left_rows.now i x → Standing u right_rules.now right_rows.now → Added result n (rule_entries i (resolve_rule left_text.now x) (lookup 0 (resolve_table right_text.now u) (bytes_at left_text.now x.name))) list.old list.new }
+    requires side { Sound left.now.rules.now left.now.rows.now left.now.text.now left_marks.now }
+    requires side_2 { Sound right.now.rules.now right.now.rows.now right.now.text.now right_marks.now }
+    requires paired { Paired (length left.now.rules.now / rule_width) left.now.rules.now left.now.text.now right.now.rules.now right.now.text.now left_marks.now right_marks.now }
+    requires i_in_bounds { (i < length left.now.rules.now / rule_width) × (n + 2 ≤ length list.old / entry_width) }
+    ensures { (x : Rule Span) (u : Table Span) → RuleIs left.now.rules.now left.now.rows.now i x → Standing u right.now.rules.now right.now.rows.now → Added result n (rule_entries i (resolve_rule left.now.text.now x) (lookup 0 (resolve_table right.now.text.now u) (bytes_at left.now.text.now x.name))) list.old list.new }
 {
     let partner = left_marks[i * MARK_WIDTH + MEMORY];
     if partner == 0 {
         return put(list, n, Sort::OnlyLeft, i as u32, 0, 0);
     }
     list_common(
-        left_rules,
-        left_rows,
-        left_text,
+        left,
         left_marks,
-        right_rules,
-        right_rows,
-        right_text,
+        right,
         right_marks,
         i,
         partner as usize - 1,
@@ -206,37 +181,21 @@ fn list_rule(
 
 // The entries of all left rules.
 fn list_left(
-    left_rules: &[u32],
-    left_rows: &[u32],
-    left_text: &[u8],
+    left: &LentTable,
     left_marks: &[u32],
-    right_rules: &[u32],
-    right_rows: &[u32],
-    right_text: &[u8],
+    right: &LentTable,
     right_marks: &[u32],
     list: &mut [u32],
 ) -> usize
-    requires side { Sound left_rules.now left_rows.now left_text.now left_marks.now }
-    requires side_2 { Sound right_rules.now right_rows.now right_text.now right_marks.now }
-    requires paired { Paired (length left_rules.now / rule_width) left_rules.now left_text.now right_rules.now right_text.now left_marks.now right_marks.now }
+    requires side { Sound left.now.rules.now left.now.rows.now left.now.text.now left_marks.now }
+    requires side_2 { Sound right.now.rules.now right.now.rows.now right.now.text.now right_marks.now }
+    requires paired { Paired (length left.now.rules.now / rule_width) left.now.rules.now left.now.text.now right.now.rules.now right.now.text.now left_marks.now right_marks.now }
     requires full_list_in_bounds { full_list ≤ length list.old }
-    ensures { (t u : Table Span) → Standing t left_rules.now left_rows.now → Standing u right_rules.now right_rows.now → Added result 0 (left_entries 0 (resolve_table left_text.now t) (resolve_table right_text.now u)) list.old list.new }
+    ensures { (t u : Table Span) → Standing t left.now.rules.now left.now.rows.now → Standing u right.now.rules.now right.now.rows.now → Added result 0 (left_entries 0 (resolve_table left.now.text.now t) (resolve_table right.now.text.now u)) list.old list.new }
 {
     let mut n = 0;
-    for i in 0..left_rules.len() / RULE_WIDTH {
-        n = list_rule(
-            left_rules,
-            left_rows,
-            left_text,
-            left_marks,
-            right_rules,
-            right_rows,
-            right_text,
-            right_marks,
-            i,
-            list,
-            n,
-        );
+    for i in 0..left.rules.len() / RULE_WIDTH {
+        n = list_rule(left, left_marks, right, right_marks, i, list, n);
     }
     n
 }
@@ -258,28 +217,25 @@ fn list_right(right_marks: &[u32], count: usize, list: &mut [u32], n: usize) -> 
 
 // Writes into the mark of left rule i which right rule has its name, and into that one's that it is found.
 fn pair_one(
-    left_rules: &[u32],
-    left_text: &[u8],
+    left: &LentTable,
     left_marks: &mut [u32],
-    right_rules: &[u32],
-    right_text: &[u8],
+    right: &LentTable,
     right_marks: &mut [u32],
     i: usize,
 )
-    requires names_inside { NamesInside left_rules.now (length left_text.now) }
-    requires all_indexed { AllIndexed right_rules.now right_text.now right_marks.old }
-    requires i_in_bounds { (i < length left_rules.now / rule_width) × (i * mark_width + memory_word < length left_marks.old) }
-    ensures { PairedOne i left_rules.now left_text.now right_rules.now right_text.now left_marks.old left_marks.new right_marks.old right_marks.new }
+    requires names_inside { NamesInside left.now.rules.now (length left.now.text.now) }
+    requires all_indexed { AllIndexed right.now.rules.now right.now.text.now right_marks.old }
+    requires i_in_bounds { (i < length left.now.rules.now / rule_width) × (i * mark_width + memory_word < length left_marks.old) }
+    ensures { PairedOne i left.now.rules.now left.now.text.now right.now.rules.now right.now.text.now left_marks.old left_marks.new right_marks.old right_marks.new }
 {
     let at = i * RULE_WIDTH;
     let memory = i * MARK_WIDTH + MEMORY;
     let Some(j) = names::find_rule(
-        right_rules,
-        right_text,
+        right,
         right_marks,
-        left_text,
-        left_rules[at] as usize,
-        left_rules[at + LENGTH] as usize,
+        left.text,
+        left.rules[at] as usize,
+        left.rules[at + LENGTH] as usize,
     ) else {
         left_marks[memory] = 0;
         return;
@@ -289,71 +245,35 @@ fn pair_one(
 }
 
 // The same for all left rules.
-fn pair(
-    left_rules: &[u32],
-    left_text: &[u8],
-    left_marks: &mut [u32],
-    right_rules: &[u32],
-    right_text: &[u8],
-    right_marks: &mut [u32],
-)
-    requires names_inside { NamesInside left_rules.now (length left_text.now) }
-    requires all_indexed { AllIndexed right_rules.now right_text.now right_marks.old }
-    requires mark_width_in_bounds { length left_rules.now / rule_width * mark_width ≤ length left_marks.old }
-    ensures paired { Paired (length left_rules.now / rule_width) left_rules.now left_text.now right_rules.now right_text.now left_marks.new right_marks.new }
+fn pair(left: &LentTable, left_marks: &mut [u32], right: &LentTable, right_marks: &mut [u32])
+    requires names_inside { NamesInside left.now.rules.now (length left.now.text.now) }
+    requires all_indexed { AllIndexed right.now.rules.now right.now.text.now right_marks.old }
+    requires mark_width_in_bounds { length left.now.rules.now / rule_width * mark_width ≤ length left_marks.old }
+    ensures paired { Paired (length left.now.rules.now / rule_width) left.now.rules.now left.now.text.now right.now.rules.now right.now.text.now left_marks.new right_marks.new }
     ensures kept { Kept left_marks.old left_marks.new × Kept right_marks.old right_marks.new }
 {
-    names::forget(right_marks, right_rules.len() / RULE_WIDTH);
-    for i in 0..left_rules.len() / RULE_WIDTH {
-        pair_one(
-            left_rules,
-            left_text,
-            left_marks,
-            right_rules,
-            right_text,
-            right_marks,
-            i,
-        );
+    names::forget(right_marks, right.rules.len() / RULE_WIDTH);
+    for i in 0..left.rules.len() / RULE_WIDTH {
+        pair_one(left, left_marks, right, right_marks, i);
     }
 }
 
 // The list: the rules paired by name, the left ones' entries, then those of the right ones that are not found left.
 fn list_all(
-    left_rules: &[u32],
-    left_rows: &[u32],
-    left_text: &[u8],
+    left: &LentTable,
     left_marks: &mut [u32],
-    right_rules: &[u32],
-    right_rows: &[u32],
-    right_text: &[u8],
+    right: &LentTable,
     right_marks: &mut [u32],
     list: &mut [u32],
 ) -> usize
-    requires passed { Passed (lent left_rules.now left_rows.now left_text.now) left_marks.old }
-    requires passed_2 { Passed (lent right_rules.now right_rows.now right_text.now) right_marks.old }
+    requires passed { Passed (lent left.now.rules.now left.now.rows.now left.now.text.now) left_marks.old }
+    requires passed_2 { Passed (lent right.now.rules.now right.now.rows.now right.now.text.now) right_marks.old }
     requires full_marks_in_bounds { (full_marks ≤ length left_marks.old) × (full_marks ≤ length right_marks.old) × (full_list ≤ length list.old) }
-    ensures { Added result 0 (compare.compare (table_of (lent left_rules.now left_rows.now left_text.now)) (table_of (lent right_rules.now right_rows.now right_text.now))) list.old list.new }
+    ensures { Added result 0 (compare.compare (table_of (lent left.now.rules.now left.now.rows.now left.now.text.now)) (table_of (lent right.now.rules.now right.now.rows.now right.now.text.now))) list.old list.new }
 {
-    pair(
-        left_rules,
-        left_text,
-        left_marks,
-        right_rules,
-        right_text,
-        right_marks,
-    );
-    let n = list_left(
-        left_rules,
-        left_rows,
-        left_text,
-        left_marks,
-        right_rules,
-        right_rows,
-        right_text,
-        right_marks,
-        list,
-    );
-    list_right(right_marks, right_rules.len() / RULE_WIDTH, list, n)
+    pair(left, left_marks, right, right_marks);
+    let n = list_left(left, left_marks, right, right_marks, list);
+    list_right(right_marks, right.rules.len() / RULE_WIDTH, list, n)
 }
 
 // Whether the list or the marks are below full size.
@@ -364,32 +284,22 @@ fn is_short(list: usize, left_marks: usize, right_marks: usize) -> bool
 }
 
 // Refusals 2 to 6 of one side's table.
-fn check_side(
-    rules: &[u32],
-    rows: &[u32],
-    text: &[u8],
-    marks: &mut [u32],
-    side: Side,
-) -> Result<(), Refused>
+fn check_side(table: &LentTable, marks: &mut [u32], side: Side) -> Result<(), Refused>
     requires { full_marks ≤ length marks.old }
-    ensures { SideChecked result side (lent rules.now rows.now text.now) marks.new }
+    ensures { SideChecked result side (lent table.now.rules.now table.now.rows.now table.now.text.now) marks.new }
 {
-    refusals::check(rules, rows, text, marks).map_err(|why| Refused { why, side })
+    refusals::check(table, marks).map_err(|why| Refused { why, side })
 }
 
 // The differences of two tables, in the list: any words get it, or the lowest refusal that holds, the left table's first. The marks are work areas.
 pub fn compare(
-    left_rules: &[u32],
-    left_rows: &[u32],
-    left_text: &[u8],
-    right_rules: &[u32],
-    right_rows: &[u32],
-    right_text: &[u8],
+    left: &LentTable,
+    right: &LentTable,
     list: &mut [u32],
     left_marks: &mut [u32],
     right_marks: &mut [u32],
 ) -> Result<u32, Refused>
-    ensures { seen result list.new ≡ compare_words (lent left_rules.now left_rows.now left_text.now) (lent right_rules.now right_rows.now right_text.now) list.old left_marks.old right_marks.old }
+    ensures { seen result list.new ≡ compare_words (lent left.now.rules.now left.now.rows.now left.now.text.now) (lent right.now.rules.now right.now.rows.now right.now.text.now) list.old left_marks.old right_marks.old }
 {
     if is_short(list.len(), left_marks.len(), right_marks.len()) {
         return Err(Refused {
@@ -397,25 +307,9 @@ pub fn compare(
             side: Side::Left,
         });
     }
-    check_side(left_rules, left_rows, left_text, left_marks, Side::Left)?;
-    check_side(
-        right_rules,
-        right_rows,
-        right_text,
-        right_marks,
-        Side::Right,
-    )?;
-    let count = list_all(
-        left_rules,
-        left_rows,
-        left_text,
-        left_marks,
-        right_rules,
-        right_rows,
-        right_text,
-        right_marks,
-        list,
-    );
+    check_side(left, left_marks, Side::Left)?;
+    check_side(right, right_marks, Side::Right)?;
+    let count = list_all(left, left_marks, right, right_marks, list);
     Ok(count as u32)
 }
 
@@ -427,11 +321,11 @@ fn is_lit(kind: u32) -> bool
 }
 
 // The literal at row i, if there is one and it lies in the text.
-fn lit_at(rows: &[u32], text: &[u8], i: usize) -> Option<Literal>
-    ensures { seen_lit result ≡ literal.lit_at rows.now text.now i }
+fn lit_at(table: &LentTable, i: usize) -> Option<Literal>
+    ensures { seen_lit result ≡ literal.lit_at table.now.rows.now table.now.text.now i }
 {
-    let row = rows::row_at(rows, i)?;
-    if is_lit(row.kind) && row.x as usize + row.y as usize <= text.len() {
+    let row = rows::row_at(table.rows, i)?;
+    if is_lit(row.kind) && row.x as usize + row.y as usize <= table.text.len() {
         Some(Literal {
             offset: row.x,
             length: row.y,
@@ -458,37 +352,34 @@ fn first_row(rules: &[u32], rule: usize, most: usize) -> usize
 
 // The literal at a row of a rule, counted from the rule's first row.
 #[tactic(auto, unfolding(comparison::specs::Shown::shown_in))]
-fn shown_in(rules: &[u32], rows: &[u32], text: &[u8], rule: usize, row: usize) -> Option<Literal>
-    ensures { seen_lit result ≡ literal.shown_in (lent rules.now rows.now text.now) rule row }
+fn shown_in(table: &LentTable, rule: usize, row: usize) -> Option<Literal>
+    ensures { seen_lit result ≡ literal.shown_in (lent table.now.rules.now table.now.rows.now table.now.text.now) rule row }
 {
-    if rule >= rules.len() / RULE_WIDTH || row >= rules[rule * RULE_WIDTH + ROWS] as usize {
+    if rule >= table.rules.len() / RULE_WIDTH
+        || row >= table.rules[rule * RULE_WIDTH + ROWS] as usize
+    {
         return None;
     }
     lit_at(
-        rows,
-        text,
-        first_row(rules, rule, rows.len() / ROW_WIDTH) + row,
+        table,
+        first_row(table.rules, rule, table.rows.len() / ROW_WIDTH) + row,
     )
 }
 
 // The literal at a row of a rule of the asked side, 0 or 1: where it stands in that side's text. Any words get an answer.
 #[tactic(auto, unfolding(comparison::specs::Shown::shown))]
 pub fn place(
-    left_rules: &[u32],
-    left_rows: &[u32],
-    left_text: &[u8],
-    right_rules: &[u32],
-    right_rows: &[u32],
-    right_text: &[u8],
+    left: &LentTable,
+    right: &LentTable,
     side: u32,
     rule: usize,
     row: usize,
 ) -> Option<Literal>
-    ensures { seen_lit result ≡ literal.shown (lent left_rules.now left_rows.now left_text.now) (lent right_rules.now right_rows.now right_text.now) side rule row }
+    ensures { seen_lit result ≡ literal.shown (lent left.now.rules.now left.now.rows.now left.now.text.now) (lent right.now.rules.now right.now.rows.now right.now.text.now) side rule row }
 {
     match side {
-        LEFT => shown_in(left_rules, left_rows, left_text, rule, row),
-        RIGHT => shown_in(right_rules, right_rows, right_text, rule, row),
+        LEFT => shown_in(left, rule, row),
+        RIGHT => shown_in(right, rule, row),
         _ => None,
     }
 }
@@ -502,30 +393,16 @@ fn asked<'a>(side: u32, left_text: &'a [u8], right_text: &'a [u8]) -> &'a [u8]
 
 // Its bytes, as a part of whichever text holds them; none where there is no such literal.
 pub fn shown<'a>(
-    left_rules: &[u32],
-    left_rows: &[u32],
-    left_text: &'a [u8],
-    right_rules: &[u32],
-    right_rows: &[u32],
-    right_text: &'a [u8],
+    left: &LentTable<'a>,
+    right: &LentTable<'a>,
     side: u32,
     rule: usize,
     row: usize,
 ) -> &'a [u8]
-    ensures { result.now ≡ literal.bytes_of (lent left_rules.now left_rows.now left_text.now) (lent right_rules.now right_rows.now right_text.now) side rule row }
+    ensures { result.now ≡ literal.bytes_of (lent left.now.rules.now left.now.rows.now left.now.text.now) (lent right.now.rules.now right.now.rows.now right.now.text.now) side rule row }
 {
-    let text = asked(side, left_text, right_text);
-    match place(
-        left_rules,
-        left_rows,
-        left_text,
-        right_rules,
-        right_rows,
-        right_text,
-        side,
-        rule,
-        row,
-    ) {
+    let text = asked(side, left.text, right.text);
+    match place(left, right, side, rule, row) {
         Some(lit) => rows::part(text, lit.offset as usize, lit.length as usize),
         None => rows::part(text, 0, 0),
     }

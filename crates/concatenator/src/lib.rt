@@ -14,7 +14,7 @@ ghost use Rattle.writing.specs.Writes.{Areas};
 ghost use Rattle.writing.specs.Keeps.{KeptAnswer, Ready};
 ghost use Rattle.concatenator.specs.Joins.{joins_of, Order, Ended};
 
-use grammar::{ATOMIC, RANGE, SEQ};
+use grammar::{ATOMIC, LentTable, RANGE, SEQ};
 use writing::Place;
 
 // Whether a node of a kind over roots of two kinds is one literal.
@@ -61,47 +61,45 @@ pub fn fires(rows: &[u32], i: usize) -> bool
 
 // Writes the subtree of row `root`, which fits, at p: its children first, then its own row or the literal that they make.
 fn bottom_up(
-    rows: &[u32],
-    text: &[u8],
+    table: &LentTable,
     root: usize,
     out: &mut [u32],
     lits: &mut [u8],
     p: Place,
 ) -> Option<Place>
-    requires inside { Inside rows.now (length text.now) }
-    requires ready { Ready rows.now text.now root p out.old lits.old }
+    requires inside { Inside table.now.rows.now (length table.now.text.now) }
+    requires ready { Ready table.now.rows.now table.now.text.now root p out.old lits.old }
     requires areas { Areas out.old lits.old }
-    ensures { (r : Expr Span) → At rows.now root r → KeptAnswer result p (concatenate Atomic (resolve text.now r)) out.old out.new lits.old lits.new }
+    ensures { (r : Expr Span) → At table.now.rows.now root r → KeptAnswer result p (concatenate Atomic (resolve table.now.text.now r)) out.old out.new lits.old lits.new }
 {
-    let base = chains::below(rows, root);
-    if !chains::forks(rows, base) {
-        return writing::keep(rows, text, root, out, lits, p);
+    let base = chains::below(table.rows, root);
+    if !chains::forks(table.rows, base) {
+        return writing::keep(table, root, out, lits, p);
     }
-    let left = rows::left_of(rows, base);
-    let q = bottom_up(rows, text, left, out, lits, p).unwrap();
-    let s = bottom_up(rows, text, base - 1, out, lits, q).unwrap();
-    let e = finish(out, p, q, s, rows::kind_at(rows, base));
-    chains::raise(rows, base, root, out, p, e)
+    let left = rows::left_of(table.rows, base);
+    let q = bottom_up(table, left, out, lits, p).unwrap();
+    let s = bottom_up(table, base - 1, out, lits, q).unwrap();
+    let e = finish(out, p, q, s, rows::kind_at(table.rows, base));
+    chains::raise(table.rows, base, root, out, p, e)
 }
 
 // Writes the concatenated subtree of row `root`, which fits, at p; in a rule of another type than Atomic (2), the subtree as it is.
 pub fn concatenate(
-    rows: &[u32],
-    text: &[u8],
+    table: &LentTable,
     root: usize,
     rule: u32,
     out: &mut [u32],
     lits: &mut [u8],
     p: Place,
 ) -> Option<Place>
-    requires inside { Inside rows.now (length text.now) }
-    requires ready { Ready rows.now text.now root p out.old lits.old }
+    requires inside { Inside table.now.rows.now (length table.now.text.now) }
+    requires ready { Ready table.now.rows.now table.now.text.now root p out.old lits.old }
     requires areas { Areas out.old lits.old }
-    ensures { (r : Expr Span) → At rows.now root r → KeptAnswer result p (concatenate rule (resolve text.now r)) out.old out.new lits.old lits.new }
+    ensures { (r : Expr Span) → At table.now.rows.now root r → KeptAnswer result p (concatenate rule (resolve table.now.text.now r)) out.old out.new lits.old lits.new }
 {
     if rule == ATOMIC {
-        bottom_up(rows, text, root, out, lits, p)
+        bottom_up(table, root, out, lits, p)
     } else {
-        writing::keep(rows, text, root, out, lits, p)
+        writing::keep(table, root, out, lits, p)
     }
 }

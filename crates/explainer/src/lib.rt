@@ -23,8 +23,8 @@ ghost use Rattle.explainer.specs.Reading.{number_of, Numbered, memory_at, Ready,
 ghost use Rattle.explainer.specs.Answers.{seen_told, seen, Fresh};
 
 use grammar::{
-    ATOMIC, CHOICE, IDENT, MARK_WIDTH, NEG_PRED, PAIR, REP, ROW_WIDTH, RULE_WIDTH, Refusal, SEQ,
-    STR, TYPE,
+    ATOMIC, CHOICE, IDENT, LentTable, MARK_WIDTH, NEG_PRED, PAIR, REP, ROW_WIDTH, RULE_WIDTH,
+    Refusal, SEQ, STR, TYPE,
 };
 use names::{END, MEMORY};
 use refusals::FULL_MARKS;
@@ -92,19 +92,18 @@ fn plain(answer: Reason) -> Explained
 }
 
 // The rule that the Ident of row i names.
-fn rule_at(rules: &[u32], rows: &[u32], text: &[u8], marks: &[u32], i: usize) -> Option<usize>
-    requires all_indexed { AllIndexed rules.now text.now marks.now }
-    requires inside { Inside rows.now (length text.now) }
-    requires i_in_bounds { (i < length rows.now / row_width) × (kind_at rows.now i ≡ k_ident) }
-    ensures { Finds (length rules.now / rule_width) rules.now text.now (bytes_at text.now (x_at rows.now i, y_at rows.now i)) result }
+fn rule_at(table: &LentTable, marks: &[u32], i: usize) -> Option<usize>
+    requires all_indexed { AllIndexed table.now.rules.now table.now.text.now marks.now }
+    requires inside { Inside table.now.rows.now (length table.now.text.now) }
+    requires i_in_bounds { (i < length table.now.rows.now / row_width) × (kind_at table.now.rows.now i ≡ k_ident) }
+    ensures { Finds (length table.now.rules.now / rule_width) table.now.rules.now table.now.text.now (bytes_at table.now.text.now (x_at table.now.rows.now i, y_at table.now.rows.now i)) result }
 {
     names::find_rule(
-        rules,
-        text,
+        table,
         marks,
-        text,
-        rows::x_at(rows, i),
-        rows::y_at(rows, i),
+        table.text,
+        rows::x_at(table.rows, i),
+        rows::y_at(table.rows, i),
     )
 }
 
@@ -131,22 +130,20 @@ fn note(list: &mut [u32], depth: usize, i: usize, answer: Reason)
 // Reads rule i, which was not read, while `depth` others are being read.
 #[cycle(read_in_read_leaf_read_rule)]
 fn read_rule(
-    rules: &[u32],
-    rows: &[u32],
-    text: &[u8],
+    table: &LentTable,
     marks: &mut [u32],
     list: &mut [u32],
     i: usize,
     depth: usize,
 ) -> Explained
-    requires ready { Ready rules.now rows.now text.now marks.old list.old depth }
-    requires i_in_bounds { (i < length rules.now / rule_width) × (memory_at marks.old i ≡ 0) }
-    ensures { (t : Table Span) (x : Bytes) (rule at : ℕ) → Lent rules.now rows.now t → First (length rules.now / rule_width) rules.now text.now x i → ReadSo text.now t (length rules.now / rule_width) depth marks.old marks.new list.old list.new result (λ look. look x) (λ look. look rule at x) }
+    requires ready { Ready table.now.rules.now table.now.rows.now table.now.text.now marks.old list.old depth }
+    requires i_in_bounds { (i < length table.now.rules.now / rule_width) × (memory_at marks.old i ≡ 0) }
+    ensures { (t : Table Span) (x : Bytes) (rule at : ℕ) → Lent table.now.rules.now table.now.rows.now t → First (length table.now.rules.now / rule_width) table.now.rules.now table.now.text.now x i → ReadSo table.now.text.now t (length table.now.rules.now / rule_width) depth marks.old marks.new list.old list.new result (λ look. look x) (λ look. look rule at x) }
 {
     let at = i * MARK_WIDTH;
     let end = marks[at + END] as usize;
     marks[at + MEMORY] = OPEN;
-    let a = read_in(rules, rows, text, marks, list, i, end - 1, depth + 1);
+    let a = read_in(table, marks, list, i, end - 1, depth + 1);
     close(marks, i, a.answer);
     note(list, depth, i, a.answer);
     a
@@ -155,32 +152,30 @@ fn read_rule(
 // Reads a literal, row `root` of rule i: what a Choice has on its left must be Str or Ident.
 #[cycle(read_in_read_leaf_read_rule)]
 fn read_leaf(
-    rules: &[u32],
-    rows: &[u32],
-    text: &[u8],
+    table: &LentTable,
     marks: &mut [u32],
     list: &mut [u32],
     i: usize,
     root: usize,
     depth: usize,
 ) -> Explained
-    requires ready { Ready rules.now rows.now text.now marks.old list.old depth }
-    requires stands { Stands rows.now root × (i < length rules.now / rule_width) }
-    ensures { (t : Table Span) (r : Expr Span) → Lent rules.now rows.now t → At rows.now root r → ReadSo text.now t (length rules.now / rule_width) depth marks.old marks.new list.old list.new result (λ look. read_left look (resolve text.now r)) (λ look. ends_left look i root (resolve text.now r)) }
+    requires ready { Ready table.now.rules.now table.now.rows.now table.now.text.now marks.old list.old depth }
+    requires stands { Stands table.now.rows.now root × (i < length table.now.rules.now / rule_width) }
+    ensures { (t : Table Span) (r : Expr Span) → Lent table.now.rules.now table.now.rows.now t → At table.now.rows.now root r → ReadSo table.now.text.now t (length table.now.rules.now / rule_width) depth marks.old marks.new list.old list.new result (λ look. read_left look (resolve table.now.text.now r)) (λ look. ends_left look i root (resolve table.now.text.now r)) }
 {
-    let kind = rows::kind_at(rows, root);
+    let kind = rows::kind_at(table.rows, root);
     if kind == STR {
         return plain(Reason::BecomesSkip);
     }
     if kind != IDENT {
         return told(Reason::Other, i, root, 0, 0);
     }
-    let Some(j) = rule_at(rules, rows, text, marks, root) else {
+    let Some(j) = rule_at(table, marks, root) else {
         return told(Reason::Unknown, i, root, 0, 0);
     };
     let memory = marks[j * MARK_WIDTH + MEMORY];
     if memory == 0 {
-        return read_rule(rules, rows, text, marks, list, j, depth);
+        return read_rule(table, marks, list, j, depth);
     }
     if memory == OPEN {
         return told(Reason::MetAgain, i, root, j, depth);
@@ -191,29 +186,27 @@ fn read_leaf(
 // Reads an expression of rule i, whose root is row `root`: of a Choice the left side, then the right.
 #[cycle(read_in_read_leaf_read_rule)]
 fn read_in(
-    rules: &[u32],
-    rows: &[u32],
-    text: &[u8],
+    table: &LentTable,
     marks: &mut [u32],
     list: &mut [u32],
     i: usize,
     root: usize,
     depth: usize,
 ) -> Explained
-    requires ready { Ready rules.now rows.now text.now marks.old list.old depth }
-    requires stands { Stands rows.now root × (i < length rules.now / rule_width) }
-    ensures { (t : Table Span) (r : Expr Span) → Lent rules.now rows.now t → At rows.now root r → ReadSo text.now t (length rules.now / rule_width) depth marks.old marks.new list.old list.new result (λ look. read_in look (resolve text.now r)) (λ look. ends_in look i root (resolve text.now r)) }
+    requires ready { Ready table.now.rules.now table.now.rows.now table.now.text.now marks.old list.old depth }
+    requires stands { Stands table.now.rows.now root × (i < length table.now.rules.now / rule_width) }
+    ensures { (t : Table Span) (r : Expr Span) → Lent table.now.rules.now table.now.rows.now t → At table.now.rows.now root r → ReadSo table.now.text.now t (length table.now.rules.now / rule_width) depth marks.old marks.new list.old list.new result (λ look. read_in look (resolve table.now.text.now r)) (λ look. ends_in look i root (resolve table.now.text.now r)) }
 {
     let mut at = root;
-    while rows::kind_at(rows, at) == CHOICE {
-        let left = rows::left_of(rows, at);
-        let a = read_leaf(rules, rows, text, marks, list, i, left, depth);
+    while rows::kind_at(table.rows, at) == CHOICE {
+        let left = rows::left_of(table.rows, at);
+        let a = read_leaf(table, marks, list, i, left, depth);
         if a.answer != Reason::BecomesSkip {
             return a;
         }
         at -= 1;
     }
-    read_leaf(rules, rows, text, marks, list, i, at, depth)
+    read_leaf(table, marks, list, i, at, depth)
 }
 
 // Whether row i, a Seq or a Choice, has one of its kind on its left.
@@ -255,65 +248,61 @@ fn rule_of(rules: &[u32], marks: &[u32], row: usize) -> usize
 }
 
 // Whether row i is an Ident ANY.
-fn is_any(rows: &[u32], text: &[u8], i: usize) -> bool
-    requires { Inside rows.now (length text.now) × Stands rows.now i }
-    ensures a_value { (r : Expr Span) → At rows.now i r → (a : Answer) → of_right (as_ident (resolve text.now r)) a ≡ cond result a not_any }
-    ensures i_value { result ≡ true → size_at rows.now i ≡ 1 }
+fn is_any(table: &LentTable, i: usize) -> bool
+    requires { Inside table.now.rows.now (length table.now.text.now) × Stands table.now.rows.now i }
+    ensures a_value { (r : Expr Span) → At table.now.rows.now i r → (a : Answer) → of_right (as_ident (resolve table.now.text.now r)) a ≡ cond result a not_any }
+    ensures i_value { result ≡ true → size_at table.now.rows.now i ≡ 1 }
 {
-    rows::kind_at(rows, i) == IDENT && names::is_any(text, rows::x_at(rows, i), rows::y_at(rows, i))
+    rows::kind_at(table.rows, i) == IDENT
+        && names::is_any(
+            table.text,
+            rows::x_at(table.rows, i),
+            rows::y_at(table.rows, i),
+        )
 }
 
 // Reads the list of row `row`, a Rep of rule i, if it is Rep of Seq of NegPred e and Ident ANY.
 fn read_loop(
-    rules: &[u32],
-    rows: &[u32],
-    text: &[u8],
+    table: &LentTable,
     marks: &mut [u32],
     list: &mut [u32],
     i: usize,
     row: usize,
 ) -> Explained
-    requires fresh { Fresh rules.now rows.now text.now marks.old list.old }
-    requires stands { Stands rows.now row × (kind_at rows.now row ≡ k_rep) × (i < length rules.now / rule_width) }
-    ensures { (t : Table Span) (q : Expr Span) (e : E) → Lent rules.now rows.now t → At rows.now row q → as_rep (resolve text.now q) ≡ some e → seen_told result list.new ≡ answer_told (of_seq (as_seq e) (ends_in (ends_name (suc (length (resolve_table text.now t))) (resolve_table text.now t) []) i (row - 4))) list.old }
+    requires fresh { Fresh table.now.rules.now table.now.rows.now table.now.text.now marks.old list.old }
+    requires stands { Stands table.now.rows.now row × (kind_at table.now.rows.now row ≡ k_rep) × (i < length table.now.rules.now / rule_width) }
+    ensures { (t : Table Span) (q : Expr Span) (e : E) → Lent table.now.rules.now table.now.rows.now t → At table.now.rows.now row q → as_rep (resolve table.now.text.now q) ≡ some e → seen_told result list.new ≡ answer_told (of_seq (as_seq e) (ends_in (ends_name (suc (length (resolve_table table.now.text.now t))) (resolve_table table.now.text.now t) []) i (row - 4))) list.old }
 {
     let seq = row - 1;
-    if rows::kind_at(rows, seq) != SEQ {
+    if rows::kind_at(table.rows, seq) != SEQ {
         return plain(Reason::NotSeq);
     }
-    let left = rows::left_of(rows, seq);
-    if rows::kind_at(rows, left) != NEG_PRED {
+    let left = rows::left_of(table.rows, seq);
+    if rows::kind_at(table.rows, left) != NEG_PRED {
         return plain(Reason::NotNegPred);
     }
-    if !is_any(rows, text, seq - 1) {
+    if !is_any(table, seq - 1) {
         return plain(Reason::NotAny);
     }
-    read_in(rules, rows, text, marks, list, i, left - 1, 0)
+    read_in(table, marks, list, i, left - 1, 0)
 }
 
 // The answer for a row of a table that passed.
-fn explain_row(
-    rules: &[u32],
-    rows: &[u32],
-    text: &[u8],
-    marks: &mut [u32],
-    list: &mut [u32],
-    row: usize,
-) -> Explained
-    requires { Fresh rules.now rows.now text.now marks.old list.old }
-    ensures { (t : Table Span) → Lent rules.now rows.now t → seen_told result list.new ≡ answer_told (explain.explain (resolve_table text.now t) row) list.old }
+fn explain_row(table: &LentTable, marks: &mut [u32], list: &mut [u32], row: usize) -> Explained
+    requires { Fresh table.now.rules.now table.now.rows.now table.now.text.now marks.old list.old }
+    ensures { (t : Table Span) → Lent table.now.rules.now table.now.rows.now t → seen_told result list.new ≡ answer_told (explain.explain (resolve_table table.now.text.now t) row) list.old }
 {
-    if row >= rows.len() / ROW_WIDTH || rows::kind_at(rows, row) != REP {
+    if row >= table.rows.len() / ROW_WIDTH || rows::kind_at(table.rows, row) != REP {
         return plain(Reason::NotRep);
     }
-    let i = rule_of(rules, marks, row);
-    if nested(rows, row) {
+    let i = rule_of(table.rules, marks, row);
+    if nested(table.rows, row) {
         return plain(Reason::Regroup);
     }
-    if rules[i * RULE_WIDTH + TYPE] != ATOMIC {
+    if table.rules[i * RULE_WIDTH + TYPE] != ATOMIC {
         return plain(Reason::NotAtomic);
     }
-    read_loop(rules, rows, text, marks, list, i, row)
+    read_loop(table, marks, list, i, row)
 }
 
 // Whether the list or the marks are below full size.
@@ -325,19 +314,17 @@ fn is_short(list: usize, marks: usize) -> bool
 
 // Why the row stays a loop, or that it becomes a Skip: any words get an answer, or the lowest refusal that holds. The marks are a work area.
 pub fn explain(
-    rules: &[u32],
-    rows: &[u32],
-    text: &[u8],
+    table: &LentTable,
     row: usize,
     list: &mut [u32],
     marks: &mut [u32],
 ) -> Result<Explained, Refusal>
-    ensures { seen result list.new ≡ explain.explain_words (lent rules.now rows.now text.now) row list.old marks.old }
+    ensures { seen result list.new ≡ explain.explain_words (lent table.now.rules.now table.now.rows.now table.now.text.now) row list.old marks.old }
 {
     if is_short(list.len(), marks.len()) {
         return Err(Refusal::Area);
     }
-    refusals::check(rules, rows, text, marks)?;
-    names::forget(marks, rules.len() / RULE_WIDTH);
-    Ok(explain_row(rules, rows, text, marks, list, row))
+    refusals::check(table, marks)?;
+    names::forget(marks, table.rules.len() / RULE_WIDTH);
+    Ok(explain_row(table, marks, list, row))
 }

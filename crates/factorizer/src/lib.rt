@@ -17,7 +17,7 @@ ghost use Rattle.factorizer.specs.Factors.{factored, beneath};
 ghost use Rattle.factorizer.specs.Cases.{SidesTold, CaseTold};
 ghost use Rattle.factorizer.specs.Plans.{TreeAt, TreeStands, TreeReady, PartsTold, BaseTold, PartOf, PlanTold, OverAnswer};
 
-use grammar::{ATOMIC, CHOICE, COMPOUND_ATOMIC, OPT, SEQ};
+use grammar::{ATOMIC, CHOICE, COMPOUND_ATOMIC, LentTable, OPT, SEQ};
 use writing::Place;
 
 // The roots of a Seq's two sides.
@@ -59,15 +59,15 @@ fn split(rows: &[u32], root: usize) -> Option<Sides>
 }
 
 // Which case the Choice of the subtrees of rows l and r is: the first that fits.
-fn case_of(rows: &[u32], text: &[u8], l: usize, r: usize, tight: bool) -> Case
-    requires inside { Inside rows.now (length text.now) }
-    requires stands { Stands rows.now l }
-    requires stands_2 { Stands rows.now r }
-    ensures { (x y : Expr Span) → At rows.now l x → At rows.now r y → CaseTold result tight rows.now text.now x y }
+fn case_of(table: &LentTable, l: usize, r: usize, tight: bool) -> Case
+    requires inside { Inside table.now.rows.now (length table.now.text.now) }
+    requires stands { Stands table.now.rows.now l }
+    requires stands_2 { Stands table.now.rows.now r }
+    ensures { (x y : Expr Span) → At table.now.rows.now l x → At table.now.rows.now r y → CaseTold result tight table.now.rows.now table.now.text.now x y }
 {
-    match (split(rows, l), split(rows, r)) {
+    match (split(table.rows, l), split(table.rows, r)) {
         (Some(x), Some(y)) => {
-            if rows::same_tree(rows, text, x.head, rows, text, y.head) {
+            if rows::same_tree(table, x.head, &*table, y.head) {
                 Case::Heads {
                     a: x.head,
                     b: x.tail,
@@ -78,7 +78,7 @@ fn case_of(rows: &[u32], text: &[u8], l: usize, r: usize, tight: bool) -> Case
             }
         }
         (Some(x), None) => {
-            if tight && rows::same_tree(rows, text, x.head, rows, text, r) {
+            if tight && rows::same_tree(table, x.head, &*table, r) {
                 Case::Tail {
                     a: x.head,
                     b: x.tail,
@@ -88,7 +88,7 @@ fn case_of(rows: &[u32], text: &[u8], l: usize, r: usize, tight: bool) -> Case
             }
         }
         (None, Some(y)) => {
-            if rows::same_tree(rows, text, l, rows, text, y.head) {
+            if rows::same_tree(table, l, &*table, y.head) {
                 Case::First
             } else {
                 Case::Plain
@@ -99,19 +99,19 @@ fn case_of(rows: &[u32], text: &[u8], l: usize, r: usize, tight: bool) -> Case
 }
 
 // Whether the Choice of row i is one of the three cases.
-pub fn fires(rows: &[u32], text: &[u8], i: usize, tight: bool) -> bool
-    requires inside { Inside rows.now (length text.now) }
-    requires stands { Stands rows.now i }
-    requires i_value { kind_at rows.now i ≡ k_choice }
-    ensures { result ≡ false → (x : Expr Span) → At rows.now i x → factor? tight (resolve text.now x) ≡ none }
+pub fn fires(table: &LentTable, i: usize, tight: bool) -> bool
+    requires inside { Inside table.now.rows.now (length table.now.text.now) }
+    requires stands { Stands table.now.rows.now i }
+    requires i_value { kind_at table.now.rows.now i ≡ k_choice }
+    ensures { result ≡ false → (x : Expr Span) → At table.now.rows.now i x → factor? tight (resolve table.now.text.now x) ≡ none }
 {
-    let left = rows::left_of(rows, i);
+    let left = rows::left_of(table.rows, i);
     let right = i - 1;
     // most have no Seq on either side, and need no call
-    if rows::kind_at(rows, left) != SEQ && rows::kind_at(rows, right) != SEQ {
+    if rows::kind_at(table.rows, left) != SEQ && rows::kind_at(table.rows, right) != SEQ {
         return false;
     }
-    !matches!(case_of(rows, text, left, right, tight), Case::Plain)
+    !matches!(case_of(table, left, right, tight), Case::Plain)
 }
 
 // The rows of a node's two sides.
@@ -181,11 +181,11 @@ fn untried(rows: &[u32], l: usize) -> Plan
 }
 
 // The node of that kind over the subtrees of rows l and r, which need not stand together.
-fn plan_of(rows: &[u32], text: &[u8], kind: u32, l: usize, r: usize, tight: bool) -> Plan
-    requires inside { Inside rows.now (length text.now) }
-    requires stands { Stands rows.now l }
-    requires stands_2 { Stands rows.now r }
-    ensures { (b : Bin) (x y : Expr Span) → kind ≡ bin_kind b → At rows.now l x → At rows.now r y → PlanTold result tight rows.now text.now (factored tight (resolve text.now (bin b x y))) (resolve text.now (bin b x y)) }
+fn plan_of(table: &LentTable, kind: u32, l: usize, r: usize, tight: bool) -> Plan
+    requires inside { Inside table.now.rows.now (length table.now.text.now) }
+    requires stands { Stands table.now.rows.now l }
+    requires stands_2 { Stands table.now.rows.now r }
+    ensures { (b : Bin) (x y : Expr Span) → kind ≡ bin_kind b → At table.now.rows.now l x → At table.now.rows.now r y → PlanTold result tight table.now.rows.now table.now.text.now (factored tight (resolve table.now.text.now (bin b x y))) (resolve table.now.text.now (bin b x y)) }
 {
     if kind != CHOICE {
         return Plan {
@@ -195,7 +195,7 @@ fn plan_of(rows: &[u32], text: &[u8], kind: u32, l: usize, r: usize, tight: bool
             kind: Some(kind),
         };
     }
-    match case_of(rows, text, l, r, tight) {
+    match case_of(table, l, r, tight) {
         Case::Heads { a, b, c } => Plan {
             x: a,
             y: b,
@@ -208,7 +208,7 @@ fn plan_of(rows: &[u32], text: &[u8], kind: u32, l: usize, r: usize, tight: bool
             z: None,
             kind: Some(OPT),
         },
-        Case::First => untried(rows, l),
+        Case::First => untried(table.rows, l),
         Case::Plain => Plan {
             x: l,
             y: r,
@@ -267,8 +267,7 @@ fn run_over(
 // Writes the factored subtree of row l or, with r, the factored Choice of the subtrees of rows l and r, which need not stand
 // together. Each level of a deep tree takes a frame of this function: whatever needs no recursion is decided before.
 fn at(
-    rows: &[u32],
-    text: &[u8],
+    table: &LentTable,
     l: usize,
     r: Option<usize>,
     tight: bool,
@@ -276,40 +275,39 @@ fn at(
     lits: &mut [u8],
     p: Place,
 ) -> Option<Place>
-    requires inside { Inside rows.now (length text.now) }
-    requires tree_ready { TreeReady rows.now text.now l r p out.old lits.old }
+    requires inside { Inside table.now.rows.now (length table.now.text.now) }
+    requires tree_ready { TreeReady table.now.rows.now table.now.text.now l r p out.old lits.old }
     requires areas { Areas out.old lits.old }
-    ensures { (e : Expr Span) → TreeAt rows.now l r e → KeptAnswer result p (factored tight (resolve text.now e)) out.old out.new lits.old lits.new }
+    ensures { (e : Expr Span) → TreeAt table.now.rows.now l r e → KeptAnswer result p (factored tight (resolve table.now.text.now e)) out.old out.new lits.old lits.new }
 {
-    let base = base_of(rows, l, r);
-    let Some(parts) = tree_sides(rows, base, r) else {
-        return writing::keep(rows, text, l, out, lits, p);
+    let base = base_of(table.rows, l, r);
+    let Some(parts) = tree_sides(table.rows, base, r) else {
+        return writing::keep(table, l, out, lits, p);
     };
-    let plan = plan_of(rows, text, parts.kind, parts.l, parts.r, tight);
-    let q = at(rows, text, plan.x, None, tight, out, lits, p)?;
+    let plan = plan_of(table, parts.kind, parts.l, parts.r, tight);
+    let q = at(table, plan.x, None, tight, out, lits, p)?;
     let Some(kind) = plan.kind else {
-        return run_over(rows, base, l, r, out, p, q);
+        return run_over(table.rows, base, l, r, out, p, q);
     };
-    let s = at(rows, text, plan.y, plan.z, tight, out, lits, q)?;
+    let s = at(table, plan.y, plan.z, tight, out, lits, q)?;
     let e = over(out, p, q, s, kind)?;
-    run_over(rows, base, l, r, out, p, e)
+    run_over(table.rows, base, l, r, out, p, e)
 }
 
 // Writes the factored subtree of row `root` of a rule of that type at p, its literals packed.
 pub fn factor(
-    rows: &[u32],
-    text: &[u8],
+    table: &LentTable,
     root: usize,
     rule: u32,
     out: &mut [u32],
     lits: &mut [u8],
     p: Place,
 ) -> Option<Place>
-    requires inside { Inside rows.now (length text.now) }
-    requires ready { Ready rows.now text.now root p out.old lits.old }
+    requires inside { Inside table.now.rows.now (length table.now.text.now) }
+    requires ready { Ready table.now.rows.now table.now.text.now root p out.old lits.old }
     requires areas { Areas out.old lits.old }
-    ensures { (r : Expr Span) → At rows.now root r → KeptAnswer result p (factor rule (resolve text.now r)) out.old out.new lits.old lits.new }
+    ensures { (r : Expr Span) → At table.now.rows.now root r → KeptAnswer result p (factor rule (resolve table.now.text.now r)) out.old out.new lits.old lits.new }
 {
     let tight = tight_rule(rule);
-    at(rows, text, root, None, tight, out, lits, p)
+    at(table, root, None, tight, out, lits, p)
 }

@@ -14,7 +14,7 @@ ghost use Rattle.writing.specs.Keeps.{KeptAnswer, Ready};
 ghost use Rattle.lister.specs.Loops.{Loops};
 ghost use Rattle.lister.specs.Mends.{Pair, Pairs, Movable, MendedAnswer};
 
-use grammar::{REP, ROW_WIDTH, SEQ};
+use grammar::{LentTable, REP, ROW_WIDTH, SEQ};
 use writing::Place;
 
 // Copies n words down, from `from` to `to`; the two runs may overlap. Never inlined: `list` keeps a small frame.
@@ -45,19 +45,19 @@ fn mend(out: &mut [u32], from: usize, s: Place, n: u32, m: u32) -> Option<Place>
 }
 
 // Whether the subtrees of rows i and j are (a~b)* and a.
-fn loops(rows: &[u32], text: &[u8], i: usize, j: usize) -> bool
-    requires stands_in { StandsIn rows.now i (length text.now) }
-    requires stands_in_2 { StandsIn rows.now j (length text.now) }
-    ensures { (l r : Expr Span) → At rows.now i l → At rows.now j r → Tells result (Loops (resolve text.now l) (resolve text.now r)) }
+fn loops(table: &LentTable, i: usize, j: usize) -> bool
+    requires stands_in { StandsIn table.now.rows.now i (length table.now.text.now) }
+    requires stands_in_2 { StandsIn table.now.rows.now j (length table.now.text.now) }
+    ensures { (l r : Expr Span) → At table.now.rows.now i l → At table.now.rows.now j r → Tells result (Loops (resolve table.now.text.now l) (resolve table.now.text.now r)) }
 {
-    if rows::kind_at(rows, i) != REP {
+    if rows::kind_at(table.rows, i) != REP {
         return false;
     }
     let body = i - 1;
-    if rows::kind_at(rows, body) != SEQ {
+    if rows::kind_at(table.rows, body) != SEQ {
         return false;
     }
-    rows::same_tree(rows, text, rows::left_of(rows, body), rows, text, j)
+    rows::same_tree(table, rows::left_of(table.rows, body), &*table, j)
 }
 
 // Ends a node of two children that stand from p to q and from q to s.
@@ -65,7 +65,17 @@ fn finish(out: &mut [u32], lits: &[u8], p: Place, q: Place, s: Place, kind: u32)
     requires { Pairs p q s out.old lits.now }
     ensures { (b : Bin) (e f : E) → kind ≡ bin_kind b → Pair p q s e f out.old lits.now → KeptAnswer result p (or_same list? (bin b e f)) out.old out.new lits.now lits.now }
 {
-    if kind == SEQ && loops(out, lits, q.rows - 1, s.rows - 1) {
+    if kind == SEQ
+        && loops(
+            &LentTable {
+                rules: &[],
+                rows: out,
+                text: lits,
+            },
+            q.rows - 1,
+            s.rows - 1,
+        )
+    {
         // the loop's two rows count what they did: a is as large as the tree that follows
         let n = q.rows - p.rows - 1;
         let m = s.rows - p.rows + 1;
@@ -75,38 +85,37 @@ fn finish(out: &mut [u32], lits: &[u8], p: Place, q: Place, s: Place, kind: u32)
 }
 
 // Whether the Seq of row i begins with a loop that is listed.
-pub fn fires(rows: &[u32], text: &[u8], i: usize) -> bool
-    requires inside { Inside rows.now (length text.now) }
-    requires stands { Stands rows.now i }
-    requires i_value { kind_at rows.now i ≡ k_seq }
-    ensures { result ≡ false → (x : Expr Span) → At rows.now i x → list? (resolve text.now x) ≡ none }
+pub fn fires(table: &LentTable, i: usize) -> bool
+    requires inside { Inside table.now.rows.now (length table.now.text.now) }
+    requires stands { Stands table.now.rows.now i }
+    requires i_value { kind_at table.now.rows.now i ≡ k_seq }
+    ensures { result ≡ false → (x : Expr Span) → At table.now.rows.now i x → list? (resolve table.now.text.now x) ≡ none }
 {
-    let left = rows::left_of(rows, i);
+    let left = rows::left_of(table.rows, i);
     // nearly every Seq begins with none, and needs no call
-    rows::kind_at(rows, left) == REP && loops(rows, text, left, i - 1)
+    rows::kind_at(table.rows, left) == REP && loops(table, left, i - 1)
 }
 
 // Writes the listed subtree of row `root` at p, its literals packed: its children first, then its own row or what they are listed as.
 pub fn list(
-    rows: &[u32],
-    text: &[u8],
+    table: &LentTable,
     root: usize,
     out: &mut [u32],
     lits: &mut [u8],
     p: Place,
 ) -> Option<Place>
-    requires inside { Inside rows.now (length text.now) }
-    requires ready { Ready rows.now text.now root p out.old lits.old }
+    requires inside { Inside table.now.rows.now (length table.now.text.now) }
+    requires ready { Ready table.now.rows.now table.now.text.now root p out.old lits.old }
     requires areas { Areas out.old lits.old }
-    ensures { (r : Expr Span) → At rows.now root r → KeptAnswer result p (list (resolve text.now r)) out.old out.new lits.old lits.new }
+    ensures { (r : Expr Span) → At table.now.rows.now root r → KeptAnswer result p (list (resolve table.now.text.now r)) out.old out.new lits.old lits.new }
 {
-    let base = chains::below(rows, root);
-    if !chains::forks(rows, base) {
-        return writing::keep(rows, text, root, out, lits, p);
+    let base = chains::below(table.rows, root);
+    if !chains::forks(table.rows, base) {
+        return writing::keep(table, root, out, lits, p);
     }
-    let left = rows::left_of(rows, base);
-    let q = list(rows, text, left, out, lits, p).unwrap();
-    let s = list(rows, text, base - 1, out, lits, q).unwrap();
-    let e = finish(out, lits, p, q, s, rows::kind_at(rows, base)).unwrap();
-    chains::raise(rows, base, root, out, p, e)
+    let left = rows::left_of(table.rows, base);
+    let q = list(table, left, out, lits, p).unwrap();
+    let s = list(table, base - 1, out, lits, q).unwrap();
+    let e = finish(out, lits, p, q, s, rows::kind_at(table.rows, base)).unwrap();
+    chains::raise(table.rows, base, root, out, p, e)
 }

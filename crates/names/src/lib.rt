@@ -13,7 +13,7 @@ ghost use Rattle.grammar.specs.Refusals as refusals;
 ghost use Rattle.rows.specs.Rows.{Tells};
 ghost use Rattle.names.specs.Names.{name_of, rows_before, hash_from, last_bytes, bucket_of, half_at, with_half, symbol_at, onward, marked, with_ends, NamesInside, Ends, Indexed, Walkable, AllIndexed, IndexAnswer, NamesAnswer, ApartAnswer, First, Finds, IsName, halves, if_not, if_so, half_size, few_rules, memory_word, ways_word};
 
-use grammar::{LENGTH, MARK_WIDTH, ROWS, RULE_WIDTH};
+use grammar::{LENGTH, LentTable, MARK_WIDTH, ROWS, RULE_WIDTH};
 
 // A slot of the index, and what it holds.
 #[derive(Clone, Copy)]
@@ -150,26 +150,18 @@ fn same_symbol(text1: &[u8], x: usize, n: usize, text2: &[u8], y: usize, m: usiz
 }
 
 // The slot that the name of n bytes at x of another text goes on with at node k, and what it holds.
-fn go_on(
-    rules: &[u32],
-    text: &[u8],
-    marks: &[u32],
-    k: usize,
-    text2: &[u8],
-    x: usize,
-    n: usize,
-) -> Spot
-    requires names_inside { NamesInside rules.now (length text.now) }
-    requires k_in_bounds { (k < length rules.now / rule_width) × (length rules.now / rule_width * mark_width ≤ length marks.now) }
+fn go_on(table: &LentTable, marks: &[u32], k: usize, text2: &[u8], x: usize, n: usize) -> Spot
+    requires names_inside { NamesInside table.now.rules.now (length table.now.text.now) }
+    requires k_in_bounds { (k < length table.now.rules.now / rule_width) × (length table.now.rules.now / rule_width * mark_width ≤ length marks.now) }
     requires n_in_bounds { x + n ≤ length text2.now }
-    ensures { (result.slot ≡ onward (name_of rules.now text.now) marks.now (bytes_at text2.now (x, n)) k) × (result.holds ≡ half_at marks.now result.slot) }
+    ensures { (result.slot ≡ onward (name_of table.now.rules.now table.now.text.now) marks.now (bytes_at text2.now (x, n)) k) × (result.holds ≡ half_at marks.now result.slot) }
 {
     let at = k * RULE_WIDTH;
     let d = half(marks, k * HALVES);
     if same_symbol(
-        text,
-        rules[at] as usize,
-        rules[at + LENGTH] as usize,
+        table.text,
+        table.rules[at] as usize,
+        table.rules[at + LENGTH] as usize,
         text2,
         x,
         n,
@@ -189,20 +181,20 @@ fn go_on(
 }
 
 // Where the way of the name of n bytes at x of another text ends.
-fn spot_of(rules: &[u32], text: &[u8], marks: &[u32], text2: &[u8], x: usize, n: usize) -> Spot
-    requires names_inside { NamesInside rules.now (length text.now) }
-    requires walkable { Walkable rules.now text.now marks.now }
-    requires rule_width_nonzero { 0 < length rules.now / rule_width }
+fn spot_of(table: &LentTable, marks: &[u32], text2: &[u8], x: usize, n: usize) -> Spot
+    requires names_inside { NamesInside table.now.rules.now (length table.now.text.now) }
+    requires walkable { Walkable table.now.rules.now table.now.text.now marks.now }
+    requires rule_width_nonzero { 0 < length table.now.rules.now / rule_width }
     requires n_in_bounds { x + n ≤ length text2.now }
     ensures holds_value { result.holds ≡ half_at marks.now result.slot }
-    ensures by_index { (k : ℕ) → Indexed k rules.now text.now marks.now → Ends (length rules.now / rule_width) k (name_of rules.now text.now) marks.now (bytes_at text2.now (x, n)) result.slot }
+    ensures by_index { (k : ℕ) → Indexed k table.now.rules.now table.now.text.now marks.now → Ends (length table.now.rules.now / rule_width) k (name_of table.now.rules.now table.now.text.now) marks.now (bytes_at text2.now (x, n)) result.slot }
 {
-    let count = rules.len() / RULE_WIDTH;
+    let count = table.rules.len() / RULE_WIDTH;
     let start = bucket_of(text2, x, n, count) * HALVES + 1;
     let mut slot = start;
     let mut holds = half(marks, start);
     while count < holds {
-        let s = go_on(rules, text, marks, holds - count, text2, x, n);
+        let s = go_on(table, marks, holds - count, text2, x, n);
         slot = s.slot;
         holds = s.holds;
     }
@@ -240,51 +232,50 @@ fn fork(marks: &mut [u32], count: usize, slot: usize, i: usize, j: usize, d: usi
 }
 
 // Puts rule i's name, of n bytes at x, beside rule j's, which was found in `slot`: false where they are the same.
-fn beside(rules: &[u32], text: &[u8], marks: &mut [u32], slot: usize, i: usize, j: usize) -> bool
-    requires names_inside { NamesInside rules.now (length text.now) }
-    requires i_in_bounds { (i < length rules.now / rule_width) × (length text.now ≤ half_size) }
-    requires indexed { Indexed i rules.now text.now marks.old }
-    requires ends { Ends (length rules.now / rule_width) i (name_of rules.now text.now) marks.old (name_of rules.now text.now i) slot }
-    requires j_value { (j ≡ half_at marks.old slot) × (j < length rules.now / rule_width) }
-    ensures { IndexAnswer result (i + 1) rules.now text.now marks.new }
+fn beside(table: &LentTable, marks: &mut [u32], slot: usize, i: usize, j: usize) -> bool
+    requires names_inside { NamesInside table.now.rules.now (length table.now.text.now) }
+    requires i_in_bounds { (i < length table.now.rules.now / rule_width) × (length table.now.text.now ≤ half_size) }
+    requires indexed { Indexed i table.now.rules.now table.now.text.now marks.old }
+    requires ends { Ends (length table.now.rules.now / rule_width) i (name_of table.now.rules.now table.now.text.now) marks.old (name_of table.now.rules.now table.now.text.now i) slot }
+    requires j_value { (j ≡ half_at marks.old slot) × (j < length table.now.rules.now / rule_width) }
+    ensures { IndexAnswer result (i + 1) table.now.rules.now table.now.text.now marks.new }
 {
     let at = i * RULE_WIDTH;
     let to = j * RULE_WIDTH;
     match tell_apart(
-        text,
-        rules[to] as usize,
-        rules[to + LENGTH] as usize,
-        rules[at] as usize,
-        rules[at + LENGTH] as usize,
+        table.text,
+        table.rules[to] as usize,
+        table.rules[to + LENGTH] as usize,
+        table.rules[at] as usize,
+        table.rules[at + LENGTH] as usize,
     ) {
         None => false,
         Some(d) => {
-            fork(marks, rules.len() / RULE_WIDTH, slot, i, j, d);
+            fork(marks, table.rules.len() / RULE_WIDTH, slot, i, j, d);
             true
         }
     }
 }
 
 // Puts rule i's name into the index of those before it: false where one of them is the same.
-fn index_name(rules: &[u32], text: &[u8], marks: &mut [u32], i: usize) -> bool
-    requires names_inside { NamesInside rules.now (length text.now) }
-    requires i_in_bounds { (i < length rules.now / rule_width) × (length text.now ≤ half_size) }
-    requires indexed { Indexed i rules.now text.now marks.old }
-    ensures { IndexAnswer result (i + 1) rules.now text.now marks.new }
+fn index_name(table: &LentTable, marks: &mut [u32], i: usize) -> bool
+    requires names_inside { NamesInside table.now.rules.now (length table.now.text.now) }
+    requires i_in_bounds { (i < length table.now.rules.now / rule_width) × (length table.now.text.now ≤ half_size) }
+    requires indexed { Indexed i table.now.rules.now table.now.text.now marks.old }
+    ensures { IndexAnswer result (i + 1) table.now.rules.now table.now.text.now marks.new }
 {
     let at = i * RULE_WIDTH;
     let s = spot_of(
-        rules,
-        text,
+        table,
         marks,
-        text,
-        rules[at] as usize,
-        rules[at + LENGTH] as usize,
+        table.text,
+        table.rules[at] as usize,
+        table.rules[at + LENGTH] as usize,
     );
     let slot = s.slot;
     let j = s.holds;
-    if j < rules.len() / RULE_WIDTH {
-        return beside(rules, text, marks, slot, i, j);
+    if j < table.rules.len() / RULE_WIDTH {
+        return beside(table, marks, slot, i, j);
     }
     set_half(marks, slot, i);
     true
@@ -301,11 +292,11 @@ fn fill(count: usize, marks: &mut [u32], j: usize, v: u32)
 }
 
 // Empties the index.
-fn clear(rules: &[u32], text: &[u8], marks: &mut [u32])
-    requires { (length rules.now / rule_width * mark_width ≤ length marks.old) × (length rules.now / rule_width < few_rules) }
-    ensures { Indexed 0 rules.now text.now marks.new }
+fn clear(table: &LentTable, marks: &mut [u32])
+    requires { (length table.now.rules.now / rule_width * mark_width ≤ length marks.old) × (length table.now.rules.now / rule_width < few_rules) }
+    ensures { Indexed 0 table.now.rules.now table.now.text.now marks.new }
 {
-    let count = rules.len() / RULE_WIDTH;
+    let count = table.rules.len() / RULE_WIDTH;
     let none = halves(count, count);
     fill(count, marks, 0, none);
     fill(count, marks, WAYS, none);
@@ -320,16 +311,16 @@ pub fn forget(marks: &mut [u32], count: usize)
 }
 
 // Makes the index of all names: false where two are the same.
-pub fn index_names(rules: &[u32], text: &[u8], marks: &mut [u32]) -> bool
-    requires names_inside { NamesInside rules.now (length text.now) }
-    requires mark_width_in_bounds { length rules.now / rule_width * mark_width ≤ length marks.old }
-    requires rule_width_len_bound { (length rules.now / rule_width < few_rules) × (length text.now ≤ half_size) }
-    ensures { NamesAnswer result rules.now text.now marks.new }
+pub fn index_names(table: &LentTable, marks: &mut [u32]) -> bool
+    requires names_inside { NamesInside table.now.rules.now (length table.now.text.now) }
+    requires mark_width_in_bounds { length table.now.rules.now / rule_width * mark_width ≤ length marks.old }
+    requires rule_width_len_bound { (length table.now.rules.now / rule_width < few_rules) × (length table.now.text.now ≤ half_size) }
+    ensures { NamesAnswer result table.now.rules.now table.now.text.now marks.new }
 {
-    let count = rules.len() / RULE_WIDTH;
-    clear(rules, text, marks);
+    let count = table.rules.len() / RULE_WIDTH;
+    clear(table, marks);
     for i in 0..count {
-        if !index_name(rules, text, marks, i) {
+        if !index_name(table, marks, i) {
             return false;
         }
     }
@@ -351,38 +342,38 @@ pub fn mark_ends(rules: &[u32], marks: &mut [u32])
 }
 
 // Whether rule i has the name of n bytes at x of another text: lengths before bytes.
-pub fn has_name(rules: &[u32], text: &[u8], i: usize, text2: &[u8], x: usize, n: usize) -> bool
-    requires names_inside { NamesInside rules.now (length text.now) }
-    requires i_in_bounds { i < length rules.now / rule_width }
+pub fn has_name(table: &LentTable, i: usize, text2: &[u8], x: usize, n: usize) -> bool
+    requires names_inside { NamesInside table.now.rules.now (length table.now.text.now) }
+    requires i_in_bounds { i < length table.now.rules.now / rule_width }
     requires n_in_bounds { x + n ≤ length text2.now }
-    ensures { Tells result (name_of rules.now text.now i ≡ bytes_at text2.now (x, n)) }
+    ensures { Tells result (name_of table.now.rules.now table.now.text.now i ≡ bytes_at text2.now (x, n)) }
 {
     let at = i * RULE_WIDTH;
-    rules[at + LENGTH] as usize == n && rows::same_bytes(text, rules[at] as usize, text2, x, n)
+    table.rules[at + LENGTH] as usize == n
+        && rows::same_bytes(table.text, table.rules[at] as usize, text2, x, n)
 }
 
 // The rule with the name of n bytes at x of another text.
 pub fn find_rule(
-    rules: &[u32],
-    text: &[u8],
+    table: &LentTable,
     marks: &[u32],
     text2: &[u8],
     x: usize,
     n: usize,
 ) -> Option<usize>
-    requires all_indexed { AllIndexed rules.now text.now marks.now }
+    requires all_indexed { AllIndexed table.now.rules.now table.now.text.now marks.now }
     requires n_in_bounds { x + n ≤ length text2.now }
-    ensures { Finds (length rules.now / rule_width) rules.now text.now (bytes_at text2.now (x, n)) result }
+    ensures { Finds (length table.now.rules.now / rule_width) table.now.rules.now table.now.text.now (bytes_at text2.now (x, n)) result }
 {
-    let count = rules.len() / RULE_WIDTH;
+    let count = table.rules.len() / RULE_WIDTH;
     if count == 0 {
         return None;
     }
-    let i = spot_of(rules, text, marks, text2, x, n).holds;
+    let i = spot_of(table, marks, text2, x, n).holds;
     if i == count {
         return None;
     }
-    if has_name(rules, text, i, text2, x, n) {
+    if has_name(table, i, text2, x, n) {
         Some(i)
     } else {
         None
@@ -390,20 +381,13 @@ pub fn find_rule(
 }
 
 // The same where the name is known to be a rule's: no name is compared.
-pub fn find_known(
-    rules: &[u32],
-    text: &[u8],
-    marks: &[u32],
-    text2: &[u8],
-    x: usize,
-    n: usize,
-) -> usize
-    requires all_indexed { AllIndexed rules.now text.now marks.now }
+pub fn find_known(table: &LentTable, marks: &[u32], text2: &[u8], x: usize, n: usize) -> usize
+    requires all_indexed { AllIndexed table.now.rules.now table.now.text.now marks.now }
     requires n_in_bounds { x + n ≤ length text2.now }
-    requires name { IsName rules.now text.now (bytes_at text2.now (x, n)) }
-    ensures { First (length rules.now / rule_width) rules.now text.now (bytes_at text2.now (x, n)) result }
+    requires name { IsName table.now.rules.now table.now.text.now (bytes_at text2.now (x, n)) }
+    ensures { First (length table.now.rules.now / rule_width) table.now.rules.now table.now.text.now (bytes_at text2.now (x, n)) result }
 {
-    spot_of(rules, text, marks, text2, x, n).holds
+    spot_of(table, marks, text2, x, n).holds
 }
 
 // Whether the n bytes at x are these.

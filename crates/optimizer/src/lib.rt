@@ -13,7 +13,7 @@ ghost use Rattle.admission.specs.Ready.{Ready};
 ghost use Rattle.turns.specs.Chain.{SevenAnswer, all_seven};
 ghost use Rattle.optimizer.specs.Entry.{seen, AtLeast, Small, Said};
 
-use grammar::{ROW_WIDTH, RULE_WIDTH, Refusal};
+use grammar::{LentTable, ROW_WIDTH, RULE_WIDTH, Refusal};
 use refusals::{FULL_ROWS, FULL_RULES, FULL_TEXT};
 use turns::Seven;
 
@@ -53,9 +53,7 @@ fn finished(count: usize, first: usize, steps: Seven) -> Answer
 
 // The seven steps in the fronts of the work areas, of just full size.
 fn steps(
-    rules: &[u32],
-    rows: &[u32],
-    text: &[u8],
+    table: &LentTable,
     marks: &mut [u32],
     a_rules: &mut [u32],
     a_rows: &mut [u32],
@@ -64,15 +62,13 @@ fn steps(
     b_rows: &mut [u32],
     b_text: &mut [u8],
 ) -> Option<Seven>
-    requires ready { Ready rules.now rows.now text.now marks.old }
+    requires ready { Ready table.now.rules.now table.now.rows.now table.now.text.now marks.old }
     requires at_least { AtLeast a_rules.old a_rows.old a_text.old }
     requires at_least_2 { AtLeast b_rules.old b_rows.old b_text.old }
-    ensures { (t : Table Span) → Lent t rules.now rows.now → SevenAnswer result (all_seven (resolve_table text.now t)) a_rules.new a_rows.new a_text.new }
+    ensures { (t : Table Span) → Lent t table.now.rules.now table.now.rows.now → SevenAnswer result (all_seven (resolve_table table.now.text.now t)) a_rules.new a_rows.new a_text.new }
 {
     turns::all_steps(
-        rules,
-        rows,
-        text,
+        table,
         marks,
         &mut a_rules[..FULL_RULES],
         &mut a_rows[..FULL_ROWS],
@@ -86,9 +82,7 @@ fn steps(
 // Rewrites the rules, rows and text of a table into the three outputs, by the seven steps: any input gets a finished table or the lowest
 // refusal that holds. `a`, `b` and `marks` are work areas.
 pub fn optimize(
-    rules: &[u32],
-    rows: &[u32],
-    text: &[u8],
+    table: &LentTable,
     out_rules: &mut [u32],
     out_rows: &mut [u32],
     out_text: &mut [u8],
@@ -100,7 +94,7 @@ pub fn optimize(
     b_text: &mut [u8],
     marks: &mut [u32],
 ) -> Result<Answer, Refusal>
-    ensures { seen result (lent out_rules.new out_rows.new out_text.new) ≡ optimize (lent rules.now rows.now text.now) (lent out_rules.old out_rows.old out_text.old) (lent a_rules.old a_rows.old a_text.old) (lent b_rules.old b_rows.old b_text.old) marks.old }
+    ensures { seen result (lent out_rules.new out_rows.new out_text.new) ≡ optimize (lent table.now.rules.now table.now.rows.now table.now.text.now) (lent out_rules.old out_rows.old out_text.old) (lent a_rules.old a_rows.old a_text.old) (lent b_rules.old b_rows.old b_text.old) marks.old }
 {
     let short = admission::any_short(
         out_rules.len(),
@@ -114,14 +108,14 @@ pub fn optimize(
         b_text.len(),
         marks.len(),
     );
-    admission::refusal(short, rules, rows, text, marks)?;
+    admission::refusal(short, table, marks)?;
     let done = steps(
-        rules, rows, text, marks, a_rules, a_rows, a_text, b_rules, b_rows, b_text,
+        table, marks, a_rules, a_rows, a_text, b_rules, b_rows, b_text,
     )
     .ok_or(Refusal::Full)?;
-    let count = rules.len();
+    let count = table.rules.len();
     packing::put_out(
         count, done.place, a_rules, a_rows, a_text, out_rules, out_rows, out_text,
     );
-    Ok(finished(count, rows.len() / ROW_WIDTH, done))
+    Ok(finished(count, table.rows.len() / ROW_WIDTH, done))
 }

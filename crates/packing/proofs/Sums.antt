@@ -1,11 +1,10 @@
 -- Sums over words in fours, and what they are of a table's words: the length of its packed text. Assumes nothing.
 use mathlib.Core.Path.{◌≡◌, refl, ap, ◌∙◌}
 use mathlib.Core.List.{List, [], ◌∷◌, ◌++◌, map, append_assoc}
-use Prim.Native.Nat.{ℕ, suc, ◌+◌, ◌-◌, ◌*◌, ◌≤◌, ◌<◌}
-use native.Mathlib.Numerals.{add-one}
+use Prim.Native.Nat.{ℕ, suc, ◌+◌, ◌-◌, ◌*◌, ◌≤◌}
 use native.Mathlib.Omega.{arith}
 use lib.ListN.{length, get_or, drop, length-drop, length-append}
-use lib.Seq.{drop-cons, get_or-append-add}
+use lib.Seq.{get_or-append-add}
 use Rattle.grammar.specs.Numbers.{row_width}
 use Rattle.grammar.specs.Basic.{Bytes}
 use Rattle.grammar.specs.Tree as tree
@@ -14,21 +13,11 @@ use Rattle.grammar.specs.Rows.{Span, flat, row, str_rows}
 use Rattle.grammar.specs.Text.{bytes_at, joined, resolve, text_of}
 use Rattle.grammar.specs.Table.{Table, resolve_table, row_words, rule_words, table_text}
 use Rattle.rows.specs.Rows.{AllWithin, At, Inside, Within, kind_at, shape_of, x_at, y_at}
+use Rattle.rows.proofs.Fours.{four}
 use Rattle.rows.proofs.Laws.{length_flat, length_part, size_pos}
 use Rattle.rows.proofs.Insides.{inside_within}
 use Rattle.names.specs.Names.{NamesInside}
 use Rattle.packing.specs.Packing.{lit_length, name_length, row_length, sum_four}
-
-drop_next : (w : List ℕ) (j : ℕ) → j < length w → drop j w ≡ get_or w j 0 ∷ drop (j + 1) w
-drop_next w j h = rw add-one (drop-cons w j 0 h)
-
--- the four words from j on, and the words after them
-four : (w : List ℕ) (j : ℕ) → j + 4 ≤ length w → drop j w ≡ get_or w j 0 ∷ get_or w (j + 1) 0 ∷ get_or w (j + 2) 0 ∷ get_or w (j + 3) 0 ∷ drop (j + 4) w
-four w j h =
-    let e₂ : j + 1 + 1 ≡ j + 2 = omega arith in
-    let e₃ : j + 2 + 1 ≡ j + 3 = omega arith in
-    let e₄ : j + 3 + 1 ≡ j + 4 = omega arith in
-    drop_next w j (omega arith) ∙ rw (drop_next w (j + 1) (omega arith), e₂, drop_next w (j + 2) (omega arith), e₃, drop_next w (j + 3) (omega arith), e₄)
 
 -- ---- a walk over the rules or rows of the words w: what was summed is the sum without the words from i on
 

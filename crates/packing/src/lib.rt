@@ -12,7 +12,7 @@ ghost use Rattle.rows.specs.Rows.{Inside};
 ghost use Rattle.names.specs.Names.{NamesInside};
 ghost use Rattle.packing.specs.Packing.{sum_four, name_length, lit_length, row_length, Covers};
 
-use grammar::{IDENT, RANGE, ROW_WIDTH, X, Y};
+use grammar::{IDENT, LentTable, RANGE, ROW_WIDTH, X, Y};
 use writing::Place;
 
 // The length of a row's literal, 0 where the kind has none.
@@ -44,11 +44,12 @@ fn sum_four<F: Fn(u32, u32, u32) -> usize>(words: &[u32], size: F) -> usize
 }
 
 // The length of a lent table's packed text: its names' lengths and its literals'. What refusal 8 asks of the input.
-pub fn text_size(rules: &[u32], rows: &[u32]) -> usize
-    requires { (length rules.now ≤ full_rules) × (length rows.now ≤ full_rows) }
-    ensures { (t : Table Span) (text : Bytes) → rule_words t ≡ rules.now → row_words t ≡ rows.now → Inside rows.now (length text) → NamesInside rules.now (length text) → result ≡ length (table_text (resolve_table text t)) }
+pub fn text_size(table: &LentTable) -> usize
+    requires { (length table.now.rules.now ≤ full_rules) × (length table.now.rows.now ≤ full_rows) }
+    ensures { (t : Table Span) (text : Bytes) → rule_words t ≡ table.now.rules.now → row_words t ≡ table.now.rows.now → Inside table.now.rows.now (length text) → NamesInside table.now.rules.now (length text) → result ≡ length (table_text (resolve_table text t)) }
 {
-    sum_four(rules, |_, n, _| n as usize) + sum_four(rows, |kind, _, y| lit_length(kind, y))
+    sum_four(table.rules, |_, n, _| n as usize)
+        + sum_four(table.rows, |kind, _, y| lit_length(kind, y))
 }
 
 // Copies n words or bytes of src over the front of dst.

@@ -69,13 +69,16 @@ following {F} {ts} {rs} {ws} {text} {i} {end} h m g = go g.rest g.whole
               };
         }
 
+-- its root
+pub rooted : {F : ℕ → E → E} {ts : Table Span} {rs ws : List ℕ} {text : Bytes} {i end : ℕ} (f : Following F ts rs ws text i end) → At ws (end + get_or rs (i * rule_width + rows_word) 0 - 1) f.rule.body
+rooted f = f.at _ (omega (arith, f.rows, size_pos f.rule.body))
+
 -- one rule more, where the step leaves the tree at its last row as it is
 calm_next : {F : ℕ → E → E} {ts : Table Span} {rs ws : List ℕ} {text : Bytes} {i end : ℕ} → Following F ts rs ws text i end → ((root : ℕ) → root + 1 ≡ end + get_or rs (i * rule_width + rows_word) 0 → (r : Expr Span) → At ws root r → F (get_or rs (i * rule_width + type_word) 0) (resolve text r) ≡ resolve text r) → Calm F ts text (i + 1) (end + get_or rs (i * rule_width + rows_word) 0)
 calm_next {F} {ts} {rs} {ws} {text} {i} {end} f k =
     let b = f.rule.body in
-    let p : 1 ≤ size b = size_pos b in
     let e : end + size b ≡ end + get_or rs (i * rule_width + rows_word) 0 = omega (arith, f.rows) in
-    let s : F f.rule.type (resolve text b) ≡ resolve text b = subst (λ (y : ℕ). F y (resolve text b) ≡ resolve text b) f.type (k (end + size b - 1) (omega (arith, e)) b (f.at (end + size b - 1) (omega arith))) in
+    let s : F f.rule.type (resolve text b) ≡ resolve text b = subst (λ (y : ℕ). F y (resolve text b) ≡ resolve text b) f.type (k _ (omega (arith, e, size_pos b)) b (rooted f)) in
     subst (λ (x : ℕ). Calm F ts text (i + 1) x) e (f.next s)
 
 -- the first n rules, likewise
@@ -84,9 +87,9 @@ calm_first {F} {ts} {rs} {ws} {text} h zero m k = calm_start F ts text
 calm_first {F} {ts} {rs} {ws} {text} h (suc n) m k =
     subst (λ (x : ℕ). Calm F ts text x (rows_before rs n + get_or rs (n * rule_width + rows_word) 0)) (add-one n) (calm_next (following {F = F} h (omega arith) (calm_first h n (omega arith) (λ j b. k j (omega arith)))) (λ root e. k n (omega arith) root (e ∙ before_step rs n (rows_before rs n) refl)))
 
--- where the rules before rule n end
-pub cut : {ts : Table Span} {rs ws : List ℕ} {text : Bytes} → Holds ts rs ws text → (n : ℕ) → n ≤ length rs / rule_width → Calm (λ y e. e) ts text n (rows_before rs n)
-cut h n m = calm_first h n m (λ j b root e r a. refl)
+-- rule i begins where the rules before it end
+pub rule_at : {ts : Table Span} {rs ws : List ℕ} {text : Bytes} {count i begin : ℕ} → Holds ts rs ws text → count ≡ length rs / rule_width → begin ≡ rows_before rs i → i < count → Following (λ y e. e) ts rs ws text i begin
+rule_at {i = i} h e b m = rw b (following h (omega (arith, e, m)) (calm_first h i (omega (arith, e, m)) (λ j b root e r a. refl)))
 
 -- all rules
 pub calm_all : {F : ℕ → E → E} {ts : Table Span} {rs ws : List ℕ} {text : Bytes} {i end : ℕ} → Holds ts rs ws text → length rs / rule_width ≤ i → Calm F ts text i end → each F (resolve_table text ts) ≡ resolve_table text ts

@@ -2,7 +2,7 @@
 use Rattle.std.specs.Prelude.{None, Option, Some}
 use mathlib.Core.Path.{◌≡◌, refl, sym, ap, ◌∙◌, subst}
 use mathlib.Core.List.{List, ◌∷◌, ◌++◌}
-use Prim.Native.Nat.{ℕ, ◌+◌, ◌*◌, ◌/◌, ◌≤◌, ◌<◌}
+use Prim.Native.Nat.{ℕ, ◌+◌, ◌-◌, ◌*◌, ◌/◌, ◌≤◌, ◌<◌}
 use native.Mathlib.Omega.{arith}
 use lib.ListN.{length, take, get_or, length-append, length-take}
 use Rattle.grammar.specs.Numbers.{rule_width, length_word, type_word, rows_word, row_width}
@@ -12,6 +12,7 @@ use Rattle.grammar.specs.Rows.{Span, flat}
 use Rattle.grammar.specs.Text.{bytes_at, resolve, text_of, packed}
 use Rattle.grammar.specs.Table.{Rule, Table, row_count, resolve_table}
 use Rattle.grammar.specs.Steps.{each}
+use Rattle.grammar.proofs.TopDown.{size_pos}
 use Rattle.grammar.proofs.Packing.{packed_size}
 use Rattle.rows.specs.Rows.{At}
 use Rattle.rows.proofs.Laws.{length_flat}
@@ -46,38 +47,52 @@ pub record Here (ts : Table Span) (rs ws : List ℕ) (text : Bytes) (i end : ℕ
   pub rule : Rule Span
   pub next : Next ts rs ws text i end rule
   pub bound : (end + size rule.body) * row_width ≤ length ws
+  pub at : At ws (end + get_or rs (i * rule_width + rows_word) 0 - 1) rule.body
+  pub last : end + get_or rs (i * rule_width + rows_word) 0 - 1 + 1 ≡ end + get_or rs (i * rule_width + rows_word) 0
 
-module _ {step : ℕ} {rs₀ ws₀ : List ℕ} {text₀ : Bytes} {rs ws : List ℕ} {text : Bytes} {os₀ o₀ s₀ os o s : List ℕ} {p : Place} {end i : ℕ} (l : Loop step rs₀ ws₀ text₀ rs ws text os₀ o₀ s₀ os o s p end i) (m : i < length rs / rule_width) (given : Table Span) (lent : Lent given rs₀ ws₀) where
-  pub here : (ts : Table Span) → Holds ts rs ws text → Here ts rs ws text i end
-  here ts h =
-      let g = l.progress given ts lent h in
-      let n = next_rule _ ts text i end p os o s rs h.rules m g in
+module _ {step : ℕ} {rs₀ ws₀ : List ℕ} {text₀ : Bytes} {marks rs ws : List ℕ} {text : Bytes} {os₀ o₀ s₀ os o s : List ℕ} {p : Place} {count end i : ℕ} (all : count ≡ length rs / rule_width) (l : Loop step rs₀ ws₀ text₀ rs ws text os₀ o₀ s₀ os o s p end i) (more : i < count) (q : Passing step rs₀ ws₀ text₀ marks rs ws text os₀ o₀ s₀) where
+  m : i < length rs / rule_width
+  m = omega (arith, all, more)
+
+  -- the row of its root
+  abbrev root : ℕ
+  root = end + get_or rs (i * rule_width + rows_word) 0 - 1
+
+  rooted : {ts : Table Span} {r : Rule Span} → Next ts rs ws text i end r → At ws root r.body
+  rooted {r = r} x = x.at root (omega (arith, x.count, size_pos r.body))
+
+  pub here : Here q.table rs ws text i end
+  here =
+      let h = q.holds in
+      let g = l.progress q.given q.table q.lent h in
+      let n = next_rule _ q.table text i end p os o s rs h.rules m g in
+      let x = the_next h g n.0 n.1 n.2 in
       record {
         rule = n.0;
-        next = the_next h g n.0 n.1 n.2;
-        bound = omega (arith, g.ends, count_append g.done (n.0 ∷ n.1), ap row_count (g.whole ∙ ap (λ (x : Table Span). g.done ++ x) n.2), ap length (sym h.rows), rows_length ts);
+        next = x;
+        bound = omega (arith, g.ends, count_append g.done (n.0 ∷ n.1), ap row_count (g.whole ∙ ap (λ (x : Table Span). g.done ++ x) n.2), ap length (sym h.rows), rows_length q.table);
+        at = rooted x;
+        last = omega (arith, x.count, size_pos n.0.body);
       }
 
-  pub ready : (ts : Table Span) → Holds ts rs ws text → length rs ≤ length os₀ → RuleReady rs i (length text) os
-  ready ts h k = record { there = m; name = h.names i m; room = omega (arith, m, l.heads_same, k) }
+  pub ready : length rs ≤ length os₀ → RuleReady rs i (length text) os
+  ready k = record { there = m; name = q.holds.names i m; room = omega (arith, m, l.heads_same, k) }
 
   -- what the step asks of the rule
-  pub rule_prepared : (marks : List ℕ) → Passing step rs₀ ws₀ text₀ marks rs ws text os₀ o₀ s₀ → (root : ℕ) → root + 1 ≡ end + get_or rs (i * rule_width + rows_word) 0 → RulePrepared step (get_or rs (i * rule_width + type_word) 0) rs₀ ws₀ text₀ marks ws text root p (bytes_at text (get_or rs (i * rule_width) 0, get_or rs (i * rule_width + length_word) 0)) o s
-  rule_prepared marks q root e =
-      let ts = q.table in
+  pub rule_prepared : RulePrepared step (get_or rs (i * rule_width + type_word) 0) rs₀ ws₀ text₀ marks ws text root p (bytes_at text (get_or rs (i * rule_width) 0, get_or rs (i * rule_width + length_word) 0)) o s
+  rule_prepared =
       let h = q.holds in
-      let g = l.progress given ts lent h in
-      let n = next_rule _ ts text i end p os o s rs h.rules m g in
+      let g = l.progress q.given q.table q.lent h in
+      let n = next_rule _ q.table text i end p os o s rs h.rules m g in
       let x = the_next h g n.0 n.1 n.2 in
-      let at : At ws root n.0.body = x.at root (omega (arith, e, x.count)) in
       record {
-        table = given;
-        lent = lent;
+        table = q.given;
+        lent = q.lent;
         fits = λ k r a.
             subst (λ (c : ℕ × ℕ). RuleFits p (bytes_at text c) (resolve text r) o s) (λ j. (sym x.offset j, sym x.len j))
-            (subst (λ (b : Expr Span). RuleFits p (bytes_at text n.0.name) (resolve text b) o s) (at_unique _ _ at a)
-            (rule_fits_same {os' = os₀} g n.0 n.1 n.2 (λ y b. step_of_less step k (resolve_table text₀ given) y b) (λ y b. step_of_text step k (resolve_table text₀ given) y b) (record { rules = (q.fits k).rules; rows = omega (arith, (q.fits k).rows, l.out_same); text = omega (arith, (q.fits k).text, l.lits_same) })));
-        asks = λ r a. subst (λ (b : Expr Span). Asks step (get_or rs (i * rule_width + type_word) 0) rs₀ ws₀ text₀ marks ws text b) (at_unique _ _ at a) (subst (λ (y : ℕ). Asks step y rs₀ ws₀ text₀ marks ws text n.0.body) (sym x.type) (asks_part g.done n.0 n.1 (subst (AsksAll step rs₀ ws₀ text₀ marks ws text) (g.whole ∙ ap (λ (y : Table Span). g.done ++ y) n.2) q.asks)));
+            (subst (λ (b : Expr Span). RuleFits p (bytes_at text n.0.name) (resolve text b) o s) (at_unique _ _ (rooted x) a)
+            (rule_fits_same {os' = os₀} g n.0 n.1 n.2 (λ y b. step_of_less step k (resolve_table text₀ q.given) y b) (λ y b. step_of_text step k (resolve_table text₀ q.given) y b) (record { rules = (q.fits k).rules; rows = omega (arith, (q.fits k).rows, l.out_same); text = omega (arith, (q.fits k).text, l.lits_same) })));
+        asks = λ r a. subst (λ (b : Expr Span). Asks step (get_or rs (i * rule_width + type_word) 0) rs₀ ws₀ text₀ marks ws text b) (at_unique _ _ (rooted x) a) (subst (λ (y : ℕ). Asks step y rs₀ ws₀ text₀ marks ws text n.0.body) (sym x.type) (asks_part g.done n.0 n.1 (subst (AsksAll step rs₀ ws₀ text₀ marks ws text) (g.whole ∙ ap (λ (y : Table Span). g.done ++ y) n.2) q.asks)));
       }
 
   -- the answer for the rule, in the rule's own terms
@@ -88,53 +103,47 @@ module _ {step : ℕ} {rs₀ ws₀ : List ℕ} {text₀ : Bytes} {rs ws : List �
       (subst (λ (x : ℕ). RuleAnswer a p i (get_or rs (i * rule_width + type_word) 0) (bytes_at text (x, get_or rs (i * rule_width + length_word) 0)) (step_of step t (get_or rs (i * rule_width + type_word) 0) (resolve text r.body)) os os' o o' s s') n.offset h))
 
   -- what one_rule says of the tree at its root
-  abbrev pub Said : Option Place → ℕ → (os' o' s' : List ℕ) → Type 0
-  Said a root os' o' s' = (gs : Table Span) (r : Expr Span) → Lent gs rs₀ ws₀ → At ws root r → RuleAnswer a p i (get_or rs (i * rule_width + type_word) 0) (bytes_at text (get_or rs (i * rule_width) 0, get_or rs (i * rule_width + length_word) 0)) (step_of step (resolve_table text₀ gs) (get_or rs (i * rule_width + type_word) 0) (resolve text r)) os os' o o' s s'
+  abbrev pub Said : Option Place → (os' o' s' : List ℕ) → Type 0
+  Said a os' o' s' = (gs : Table Span) (r : Expr Span) → Lent gs rs₀ ws₀ → At ws root r → RuleAnswer a p i (get_or rs (i * rule_width + type_word) 0) (bytes_at text (get_or rs (i * rule_width) 0, get_or rs (i * rule_width + length_word) 0)) (step_of step (resolve_table text₀ gs) (get_or rs (i * rule_width + type_word) 0) (resolve text r)) os os' o o' s s'
 
-  said : (a : Option Place) (root : ℕ) (os' o' s' : List ℕ) → Said a root os' o' s' → (gs ts : Table Span) → Lent gs rs₀ ws₀ → (r : Rule Span) → Next ts rs ws text i end r → root + 1 ≡ end + size r.body → RuleAnswer a p i r.type (bytes_at text r.name) (step_of step (resolve_table text₀ gs) r.type (resolve text r.body)) os os' o o' s s'
-  said a root os' o' s' f gs ts g r n e = rule_answer a (resolve_table text₀ gs) ts os' o' s' r n (f gs r.body g (n.at root e))
+  said : {a b : Option Place} (os' o' s' : List ℕ) → a ≡ b → Said a os' o' s' → (gs ts : Table Span) → Lent gs rs₀ ws₀ → (r : Rule Span) → Next ts rs ws text i end r → RuleAnswer b p i r.type (bytes_at text r.name) (step_of step (resolve_table text₀ gs) r.type (resolve text r.body)) os os' o o' s s'
+  said os' o' s' d f gs ts g r n = subst (λ (b : Option Place). RuleAnswer b p i r.type (bytes_at text r.name) (step_of step (resolve_table text₀ gs) r.type (resolve text r.body)) os os' o o' s s') d (rule_answer _ (resolve_table text₀ gs) ts os' o' s' r n (f gs r.body g (rooted n)))
 
   -- one more rule is done
-  pub loop_next : {a : Option Place} {q : Place} {root end' : ℕ} (os' o' s' : List ℕ) → a ≡ Some q → (ts : Table Span) → Holds ts rs ws text → length rs ≤ length os₀ → length os' ≡ length os → length o' ≡ length o → length s' ≡ length s → end' ≡ end + get_or rs (i * rule_width + rows_word) 0 → root + 1 ≡ end' → Said a root os' o' s' → Loop step rs₀ ws₀ text₀ rs ws text os₀ o₀ s₀ os' o' s' q end' (i + 1)
-  loop_next {a} {q} {root} {end'} os' o' s' d tab held k eos eo es e e₂ f =
+  pub loop_next : {a : Option Place} {p' : Place} (os' o' s' : List ℕ) → a ≡ Some p' → length rs ≤ length os₀ → length os' ≡ length os → length o' ≡ length o → length s' ≡ length s → Said a os' o' s' → Loop step rs₀ ws₀ text₀ rs ws text os₀ o₀ s₀ os' o' s' p' (end + get_or rs (i * rule_width + rows_word) 0) (i + 1)
+  loop_next {a} {p'} os' o' s' d k eos eo es f =
       record {
         heads_same = eos ∙ l.heads_same;
         out_same = eo ∙ l.out_same;
         lits_same = es ∙ l.lits_same;
-        room = rule_room (kept given tab lent held);
+        room = rule_room (said os' o' s' d f q.given q.table q.lent here.rule here.next);
         progress = λ gs ts k₀ h.
             let g = l.progress gs ts k₀ h in
             let n = next_rule _ ts text i end p os o s rs h.rules m g in
             let x = the_next h g n.0 n.1 n.2 in
-            progress_next h g n.0 n.1 n.2 end' (omega (arith, e, x.count)) (omega (arith, m, k, l.heads_same)) (known gs ts k₀ n.0 x);
+            progress_next h g n.0 n.1 n.2 _ (omega (arith, x.count)) (omega (arith, m, k, l.heads_same)) (said os' o' s' d f gs ts k₀ n.0 x);
       }
     where
-      known : (gs ts : Table Span) → Lent gs rs₀ ws₀ → (r : Rule Span) → Next ts rs ws text i end r → RuleKept q p i r.type (bytes_at text r.name) (step_of step (resolve_table text₀ gs) r.type (resolve text r.body)) os os' o o' s s'
-      known gs ts k₀ r x = subst (λ (b : Option Place). RuleAnswer b p i r.type (bytes_at text r.name) (step_of step (resolve_table text₀ gs) r.type (resolve text r.body)) os os' o o' s s') d (said a root os' o' s' f gs ts k₀ r x (omega (arith, e, e₂, x.count)))
-
-      kept : (gs ts : Table Span) → Lent gs rs₀ ws₀ → (h : Holds ts rs ws text) → RuleKept q p i (here ts h).rule.type (bytes_at text (here ts h).rule.name) (step_of step (resolve_table text₀ gs) (here ts h).rule.type (resolve text (here ts h).rule.body)) os os' o o' s s'
-      kept gs ts k₀ h = known gs ts k₀ (here ts h).rule (here ts h).next
-
-      rule_room : {y : ℕ} {n : Bytes} {x : E} → RuleKept q p i y n x os os' o o' s s' → Room q o' s'
+      rule_room : {y : ℕ} {n : Bytes} {x : E} → RuleKept p' p i y n x os os' o o' s s' → Room p' o' s'
       rule_room {y} {n} {x} w =
           let r = l.room in
-          let a₁ : length (take (q.rows * row_width) o') ≡ length (take (p.rows * row_width) o) + size x * row_width = ap length w.words ∙ length-append (take (p.rows * row_width) o) (flat (packed (p.text + length n) x)) ∙ ap (λ (z : ℕ). length (take (p.rows * row_width) o) + z) (length_flat (packed (p.text + length n) x) ∙ ap (λ (z : ℕ). z * 4) (packed_size (p.text + length n) x)) in
-          let a₂ : length (take q.text s') ≡ length (take p.text s) + length (n ++ text_of x) = ap length w.bytes ∙ length-append (take p.text s) (n ++ text_of x) in
+          let a₁ : length (take (p'.rows * row_width) o') ≡ length (take (p.rows * row_width) o) + size x * row_width = ap length w.words ∙ length-append (take (p.rows * row_width) o) (flat (packed (p.text + length n) x)) ∙ ap (λ (z : ℕ). length (take (p.rows * row_width) o) + z) (length_flat (packed (p.text + length n) x) ∙ ap (λ (z : ℕ). z * 4) (packed_size (p.text + length n) x)) in
+          let a₂ : length (take p'.text s') ≡ length (take p.text s) + length (n ++ text_of x) = ap length w.bytes ∙ length-append (take p.text s) (n ++ text_of x) in
           record {
-            rows = omega (arith, a₁, w.rows, r.rows, length-take (q.rows * row_width) o', length-take (p.rows * row_width) o);
-            text = omega (arith, a₂, w.text, r.text, length-take q.text s', length-take p.text s);
+            rows = omega (arith, a₁, w.rows, r.rows, length-take (p'.rows * row_width) o', length-take (p.rows * row_width) o);
+            text = omega (arith, a₂, w.text, r.text, length-take p'.text s', length-take p.text s);
             areas = record { words = omega (arith, eo, r.areas.words); bytes = omega (arith, es, r.areas.bytes) };
           }
 
   -- a rule that does not fit
-  pub loop_full : {a : Option Place} {root end' : ℕ} (os' o' s' : List ℕ) → a ≡ None → end' ≡ end + get_or rs (i * rule_width + rows_word) 0 → root + 1 ≡ end' → Said a root os' o' s' → (gs ts : Table Span) → Lent gs rs₀ ws₀ → Holds ts rs ws text → TableFits (each (step_of step (resolve_table text₀ gs)) (resolve_table text ts)) os₀ o₀ s₀ → ⊥
-  loop_full {a} {root} {end'} os' o' s' d e e₂ f gs ts k₀ h t =
+  pub loop_full : {a : Option Place} (os' o' s' : List ℕ) → a ≡ None → Said a os' o' s' → (gs ts : Table Span) → Lent gs rs₀ ws₀ → Holds ts rs ws text → TableFits (each (step_of step (resolve_table text₀ gs)) (resolve_table text ts)) os₀ o₀ s₀ → ⊥
+  loop_full os' o' s' d f gs ts k₀ h t =
       let g = l.progress gs ts k₀ h in
       let n = next_rule _ ts text i end p os o s rs h.rules m g in
       let x = the_next h g n.0 n.1 n.2 in
       let y : RuleFits p (bytes_at text n.0.name) (step_of step (resolve_table text₀ gs) n.0.type (resolve text n.0.body)) o s = rule_fits h g n.0 n.1 n.2 {os' = os₀} (record { rules = t.rules; rows = omega (arith, t.rows, l.out_same); text = omega (arith, t.text, l.lits_same) }) in
-      subst (λ (b : Option Place). RuleAnswer b p i n.0.type (bytes_at text n.0.name) (step_of step (resolve_table text₀ gs) n.0.type (resolve text n.0.body)) os os' o o' s s') d (said a root os' o' s' f gs ts k₀ n.0 x (omega (arith, e, e₂, x.count))) y
+      said os' o' s' d f gs ts k₀ n.0 x y
 
 -- every rule is done
-pub loop_done : {step : ℕ} {rs₀ ws₀ : List ℕ} {text₀ : Bytes} {rs ws : List ℕ} {text : Bytes} {os₀ o₀ s₀ os o s : List ℕ} {p : Place} {end i : ℕ} → Loop step rs₀ ws₀ text₀ rs ws text os₀ o₀ s₀ os o s p end i → length rs / rule_width ≤ i → (gs ts : Table Span) → Lent gs rs₀ ws₀ → Holds ts rs ws text → Front p (each (step_of step (resolve_table text₀ gs)) (resolve_table text ts)) os o s
-loop_done l m gs ts g h = finished h.rules m (l.progress gs ts g h)
+pub loop_done : {step : ℕ} {rs₀ ws₀ : List ℕ} {text₀ : Bytes} {rs ws : List ℕ} {text : Bytes} {os₀ o₀ s₀ os o s : List ℕ} {p : Place} {count end i : ℕ} → count ≡ length rs / rule_width → Loop step rs₀ ws₀ text₀ rs ws text os₀ o₀ s₀ os o s p end i → count ≤ i → (gs ts : Table Span) → Lent gs rs₀ ws₀ → Holds ts rs ws text → Front p (each (step_of step (resolve_table text₀ gs)) (resolve_table text ts)) os o s
+loop_done e l m gs ts g h = finished h.rules (omega (arith, e, m)) (l.progress gs ts g h)

@@ -15,8 +15,8 @@ ghost use Rattle.writing.specs.Writes.{Room, Areas, stored};
 ghost use Rattle.passes.specs.Passes.{step_of, node_of, Leaves, LeavesFrom, StepAnswer, Lent, Held, Prepared, NameAnswer, RuleReady, RulePrepared, RuleAnswer, Holds, Passing, TableFits, PassAnswer, skip_step, concatenate_step};
 
 use grammar::{
-    ATOMIC, CHOICE, LENGTH, PAIR, REP, REP_MIN_MAX, REP_ONCE, ROW_WIDTH, ROWS, RULE_WIDTH, SEQ,
-    TYPE,
+    ATOMIC, CHOICE, LENGTH, LentTable, PAIR, REP, REP_MIN_MAX, REP_ONCE, ROW_WIDTH, ROWS,
+    RULE_WIDTH, SEQ, TYPE,
 };
 use writing::Place;
 
@@ -36,21 +36,19 @@ pub const LIST_STEP: u32 = 6;
 pub const RESTORE_STEP: u32 = 7;
 
 // Whether a step may rewrite row i in a rule of type `kind`: the row's kind comes first, it answers for most rows.
-fn fires(step: u32, kind: u32, rows: &[u32], text: &[u8], i: usize) -> bool
-    requires inside { Inside rows.now (length text.now) }
-    requires stands { Stands rows.now i }
-    ensures { result ≡ false → (look : Table Bytes) (x : Expr Span) → At rows.now i x → node_of step look kind (resolve text.now x) ≡ resolve text.now x }
+fn fires(step: u32, kind: u32, table: &LentTable, i: usize) -> bool
+    requires inside { Inside table.now.rows.now (length table.now.text.now) }
+    requires stands { Stands table.now.rows.now i }
+    ensures { result ≡ false → (look : Table Bytes) (x : Expr Span) → At table.now.rows.now i x → node_of step look kind (resolve table.now.text.now x) ≡ resolve table.now.text.now x }
 {
-    let k = rows::kind_at(rows, i);
+    let k = rows::kind_at(table.rows, i);
     match step {
-        ROTATE_STEP => k / 2 == PAIR && rotator::fires(rows, i),
-        SKIP_STEP => k == REP && skipper::fires(rows, i),
+        ROTATE_STEP => k / 2 == PAIR && rotator::fires(table.rows, i),
+        SKIP_STEP => k == REP && skipper::fires(table.rows, i),
         UNROLL_STEP => REP_ONCE <= k && k <= REP_MIN_MAX,
-        CONCATENATE_STEP => k == SEQ && concatenator::fires(rows, i),
-        FACTOR_STEP => {
-            k == CHOICE && factorizer::fires(rows, text, i, factorizer::tight_rule(kind))
-        }
-        LIST_STEP => k == SEQ && lister::fires(rows, text, i),
+        CONCATENATE_STEP => k == SEQ && concatenator::fires(table.rows, i),
+        FACTOR_STEP => k == CHOICE && factorizer::fires(table, i, factorizer::tight_rule(kind)),
+        LIST_STEP => k == SEQ && lister::fires(table, i),
         // restore looks by itself
         _ => true,
     }
@@ -64,14 +62,14 @@ fn spares(step: u32, kind: u32) -> bool
 }
 
 // Whether no row of the subtree of row `root`, whose first is row `start`, fires.
-fn quiet(step: u32, kind: u32, rows: &[u32], text: &[u8], start: usize, root: usize) -> bool
-    requires inside { Inside rows.now (length text.now) }
-    requires stands { Stands rows.now root }
-    requires root_value { root + 1 ≡ start + size_at rows.now root }
-    ensures { result ≡ true → (look : Table Bytes) (r : Expr Span) → At rows.now root r → (j : ℕ) → root < j + size r → j ≤ root → (x : Expr Span) → At rows.now j x → node_of step look kind (resolve text.now x) ≡ resolve text.now x }
+fn quiet(step: u32, kind: u32, table: &LentTable, start: usize, root: usize) -> bool
+    requires inside { Inside table.now.rows.now (length table.now.text.now) }
+    requires stands { Stands table.now.rows.now root }
+    requires root_value { root + 1 ≡ start + size_at table.now.rows.now root }
+    ensures { result ≡ true → (look : Table Bytes) (r : Expr Span) → At table.now.rows.now root r → (j : ℕ) → root < j + size r → j ≤ root → (x : Expr Span) → At table.now.rows.now j x → node_of step look kind (resolve table.now.text.now x) ≡ resolve table.now.text.now x }
 {
     for i in start..root + 1 {
-        if fires(step, kind, rows, text, i) {
+        if fires(step, kind, table, i) {
             return false;
         }
     }
@@ -79,38 +77,31 @@ fn quiet(step: u32, kind: u32, rows: &[u32], text: &[u8], start: usize, root: us
 }
 
 // Whether the rows show that a step leaves the subtree of row `root`, whose first is row `start`, of a rule of that type, as it is.
-fn still(step: u32, kind: u32, rows: &[u32], text: &[u8], start: usize, root: usize) -> bool
-    requires inside { Inside rows.now (length text.now) }
-    requires stands { Stands rows.now root }
-    requires root_value { root + 1 ≡ start + size_at rows.now root }
-    ensures { result ≡ true → Leaves step kind rows.now text.now root }
+fn still(step: u32, kind: u32, table: &LentTable, start: usize, root: usize) -> bool
+    requires inside { Inside table.now.rows.now (length table.now.text.now) }
+    requires stands { Stands table.now.rows.now root }
+    requires root_value { root + 1 ≡ start + size_at table.now.rows.now root }
+    ensures { result ≡ true → Leaves step kind table.now.rows.now table.now.text.now root }
 {
-    spares(step, kind) || quiet(step, kind, rows, text, start, root)
+    spares(step, kind) || quiet(step, kind, table, start, root)
 }
 
 // The first rule from rule `from` on, at row `start`, that the rows do not show as left as it is by a step; or the number of rules.
-pub fn first_fired(
-    step: u32,
-    rules: &[u32],
-    rows: &[u32],
-    text: &[u8],
-    from: usize,
-    start: usize,
-) -> usize
-    requires held { Held rules.now rows.now text.now }
-    requires from_in_bounds { (from ≤ length rules.now / rule_width) × (start ≡ rows_before rules.now from) }
-    ensures { (from ≤ result) × (result ≤ length rules.now / rule_width) × LeavesFrom step rules.now rows.now text.now from result }
+pub fn first_fired(step: u32, table: &LentTable, from: usize, start: usize) -> usize
+    requires held { Held table.now.rules.now table.now.rows.now table.now.text.now }
+    requires from_in_bounds { (from ≤ length table.now.rules.now / rule_width) × (start ≡ rows_before table.now.rules.now from) }
+    ensures { (from ≤ result) × (result ≤ length table.now.rules.now / rule_width) × LeavesFrom step table.now.rules.now table.now.rows.now table.now.text.now from result }
 {
     if step == RESTORE_STEP {
         // restore looks by itself
         return from;
     }
-    let count = rules.len() / RULE_WIDTH;
+    let count = table.rules.len() / RULE_WIDTH;
     let mut begin = start;
     for i in from..count {
         let at = i * RULE_WIDTH;
-        let end = begin + rules[at + ROWS] as usize;
-        if !still(step, rules[at + TYPE], rows, text, begin, end - 1) {
+        let end = begin + table.rules[at + ROWS] as usize;
+        if !still(step, table.rules[at + TYPE], table, begin, end - 1) {
             return i;
         }
         begin = end;
@@ -122,37 +113,44 @@ pub fn first_fired(
 pub fn walk(
     step: u32,
     kind: u32,
-    heads0: &[u32],
-    rows0: &[u32],
-    text0: &[u8],
+    given: &LentTable,
     marks: &[u32],
-    rows: &[u32],
-    text: &[u8],
+    table: &LentTable,
     i: usize,
     root: usize,
     out: &mut [u32],
     lits: &mut [u8],
     p: Place,
 ) -> Option<Place>
-    requires inside { Inside rows.now (length text.now) }
-    requires stands { Stands rows.now root }
+    requires inside { Inside table.now.rows.now (length table.now.text.now) }
+    requires stands { Stands table.now.rows.now root }
     requires room { Room p out.old lits.old }
-    requires prepared { Prepared step kind heads0.now rows0.now text0.now marks.now rows.now text.now root p out.old lits.old }
-    ensures { (gs : Table Span) (r : Expr Span) → Lent gs heads0.now rows0.now → At rows.now root r → StepAnswer result p (step_of step (resolve_table text0.now gs) kind (resolve text.now r)) out.old out.new lits.old lits.new }
+    requires prepared { Prepared step kind given.now.rules.now given.now.rows.now given.now.text.now marks.now table.now.rows.now table.now.text.now root p out.old lits.old }
+    ensures { (gs : Table Span) (r : Expr Span) → Lent gs given.now.rules.now given.now.rows.now → At table.now.rows.now root r → StepAnswer result p (step_of step (resolve_table given.now.text.now gs) kind (resolve table.now.text.now r)) out.old out.new lits.old lits.new }
 {
     // a step begins at a row that is there
-    rows::row_at(rows, root)?;
+    rows::row_at(table.rows, root)?;
     match step {
-        ROTATE_STEP => rotator::rotate(rows, text, root, out, lits, p),
-        SKIP_STEP => skipper::skip(
-            heads0, rows0, text0, marks, rows, text, root, kind, out, lits, p,
+        ROTATE_STEP => rotator::rotate(table, root, out, lits, p),
+        SKIP_STEP => skipper::skip(given, marks, table, root, kind, out, lits, p),
+        UNROLL_STEP => unroller::unroll(table, root, out, lits, p),
+        CONCATENATE_STEP => concatenator::concatenate(table, root, kind, out, lits, p),
+        FACTOR_STEP => factorizer::factor(table, root, kind, out, lits, p),
+        LIST_STEP => lister::list(table, root, out, lits, p),
+        RESTORE_STEP => restorer::restore(
+            &LentTable {
+                rules: given.rules,
+                rows: table.rows,
+                text: table.text,
+            },
+            marks,
+            i,
+            root,
+            out,
+            lits,
+            p,
         ),
-        UNROLL_STEP => unroller::unroll(rows, text, root, out, lits, p),
-        CONCATENATE_STEP => concatenator::concatenate(rows, text, root, kind, out, lits, p),
-        FACTOR_STEP => factorizer::factor(rows, text, root, kind, out, lits, p),
-        LIST_STEP => lister::list(rows, text, root, out, lits, p),
-        RESTORE_STEP => restorer::restore(heads0, marks, rows, text, i, root, out, lits, p),
-        _ => writing::copy(rows, text, root, out, lits, p),
+        _ => writing::copy(table, root, out, lits, p),
     }
 }
 
@@ -160,12 +158,9 @@ pub fn walk(
 pub fn stepped(
     step: u32,
     kind: u32,
-    heads0: &[u32],
-    rows0: &[u32],
-    text0: &[u8],
+    given: &LentTable,
     marks: &[u32],
-    rows: &[u32],
-    text: &[u8],
+    table: &LentTable,
     i: usize,
     root: usize,
     known: bool,
@@ -173,19 +168,17 @@ pub fn stepped(
     lits: &mut [u8],
     p: Place,
 ) -> Option<Place>
-    requires inside { Inside rows.now (length text.now) }
-    requires stands { Stands rows.now root }
+    requires inside { Inside table.now.rows.now (length table.now.text.now) }
+    requires stands { Stands table.now.rows.now root }
     requires room { Room p out.old lits.old }
-    requires prepared { Prepared step kind heads0.now rows0.now text0.now marks.now rows.now text.now root p out.old lits.old }
-    requires leaves { known ≡ true → Leaves step kind rows.now text.now root }
-    ensures { (gs : Table Span) (r : Expr Span) → Lent gs heads0.now rows0.now → At rows.now root r → StepAnswer result p (step_of step (resolve_table text0.now gs) kind (resolve text.now r)) out.old out.new lits.old lits.new }
+    requires prepared { Prepared step kind given.now.rules.now given.now.rows.now given.now.text.now marks.now table.now.rows.now table.now.text.now root p out.old lits.old }
+    requires leaves { known ≡ true → Leaves step kind table.now.rows.now table.now.text.now root }
+    ensures { (gs : Table Span) (r : Expr Span) → Lent gs given.now.rules.now given.now.rows.now → At table.now.rows.now root r → StepAnswer result p (step_of step (resolve_table given.now.text.now gs) kind (resolve table.now.text.now r)) out.old out.new lits.old lits.new }
 {
     if known {
-        return writing::copy(rows, text, root, out, lits, p);
+        return writing::copy(table, root, out, lits, p);
     }
-    walk(
-        step, kind, heads0, rows0, text0, marks, rows, text, i, root, out, lits, p,
-    )
+    walk(step, kind, given, marks, table, i, root, out, lits, p)
 }
 
 // Writes n bytes of a text at p.
@@ -223,13 +216,9 @@ fn set_rule(heads: &mut [u32], i: usize, x: u32, n: u32, kind: u32, size: u32)
 // Rule i, whose root is row `root`: its name, its expression by the step, its four words.
 pub fn one_rule(
     step: u32,
-    heads0: &[u32],
-    rows0: &[u32],
-    text0: &[u8],
+    given: &LentTable,
     marks: &[u32],
-    rules: &[u32],
-    rows: &[u32],
-    text: &[u8],
+    table: &LentTable,
     i: usize,
     root: usize,
     known: bool,
@@ -238,21 +227,21 @@ pub fn one_rule(
     lits: &mut [u8],
     p: Place,
 ) -> Option<Place>
-    requires inside { Inside rows.now (length text.now) }
-    requires stands { Stands rows.now root }
+    requires inside { Inside table.now.rows.now (length table.now.text.now) }
+    requires stands { Stands table.now.rows.now root }
     requires room { Room p out.old lits.old }
-    requires rule_ready { RuleReady rules.now i (length text.now) heads.old }
-    requires rule_prepared { RulePrepared step (get_or rules.now (i * rule_width + type_word) 0) heads0.now rows0.now text0.now marks.now rows.now text.now root p (bytes_at text.now (get_or rules.now (i * rule_width) 0, get_or rules.now (i * rule_width + length_word) 0)) out.old lits.old }
-    requires leaves { known ≡ true → Leaves step (get_or rules.now (i * rule_width + type_word) 0) rows.now text.now root }
-    ensures { (gs : Table Span) (r : Expr Span) → Lent gs heads0.now rows0.now → At rows.now root r → RuleAnswer result p i (get_or rules.now (i * rule_width + type_word) 0) (bytes_at text.now (get_or rules.now (i * rule_width) 0, get_or rules.now (i * rule_width + length_word) 0)) (step_of step (resolve_table text0.now gs) (get_or rules.now (i * rule_width + type_word) 0) (resolve text.now r)) heads.old heads.new out.old out.new lits.old lits.new }
+    requires rule_ready { RuleReady table.now.rules.now i (length table.now.text.now) heads.old }
+    requires rule_prepared { RulePrepared step (get_or table.now.rules.now (i * rule_width + type_word) 0) given.now.rules.now given.now.rows.now given.now.text.now marks.now table.now.rows.now table.now.text.now root p (bytes_at table.now.text.now (get_or table.now.rules.now (i * rule_width) 0, get_or table.now.rules.now (i * rule_width + length_word) 0)) out.old lits.old }
+    requires leaves { known ≡ true → Leaves step (get_or table.now.rules.now (i * rule_width + type_word) 0) table.now.rows.now table.now.text.now root }
+    ensures { (gs : Table Span) (r : Expr Span) → Lent gs given.now.rules.now given.now.rows.now → At table.now.rows.now root r → RuleAnswer result p i (get_or table.now.rules.now (i * rule_width + type_word) 0) (bytes_at table.now.text.now (get_or table.now.rules.now (i * rule_width) 0, get_or table.now.rules.now (i * rule_width + length_word) 0)) (step_of step (resolve_table given.now.text.now gs) (get_or table.now.rules.now (i * rule_width + type_word) 0) (resolve table.now.text.now r)) heads.old heads.new out.old out.new lits.old lits.new }
 {
     let at = i * RULE_WIDTH;
-    let x = rules[at];
-    let n = rules[at + LENGTH];
-    let kind = rules[at + TYPE];
-    let q = put_name(text, x, n, lits, p)?;
+    let x = table.rules[at];
+    let n = table.rules[at + LENGTH];
+    let kind = table.rules[at + TYPE];
+    let q = put_name(table.text, x, n, lits, p)?;
     let s = stepped(
-        step, kind, heads0, rows0, text0, marks, rows, text, i, root, known, out, lits, q,
+        step, kind, given, marks, table, i, root, known, out, lits, q,
     )?;
     let size = s.rows - p.rows;
     set_rule(heads, i, p.text as u32, n, kind, size as u32);
@@ -263,40 +252,32 @@ pub fn one_rule(
 // None where it does not fit.
 pub fn pass(
     step: u32,
-    heads0: &[u32],
-    rows0: &[u32],
-    text0: &[u8],
+    given: &LentTable,
     marks: &[u32],
-    rules: &[u32],
-    rows: &[u32],
-    text: &[u8],
+    table: &LentTable,
     heads: &mut [u32],
     out: &mut [u32],
     lits: &mut [u8],
     stay: usize,
 ) -> Option<Place>
-    requires passing { Passing step heads0.now rows0.now text0.now marks.now rules.now rows.now text.now heads.old out.old lits.old }
-    requires leaves_from { LeavesFrom step rules.now rows.now text.now 0 stay }
-    requires rules_in_bounds { length rules.now ≤ length heads.old }
+    requires passing { Passing step given.now.rules.now given.now.rows.now given.now.text.now marks.now table.now.rules.now table.now.rows.now table.now.text.now heads.old out.old lits.old }
+    requires leaves_from { LeavesFrom step table.now.rules.now table.now.rows.now table.now.text.now 0 stay }
+    requires rules_in_bounds { length table.now.rules.now ≤ length heads.old }
     requires areas { Areas out.old lits.old }
-    ensures { (gs ts : Table Span) → Lent gs heads0.now rows0.now → Holds ts rules.now rows.now text.now → PassAnswer result (each (step_of step (resolve_table text0.now gs)) (resolve_table text.now ts)) heads.old out.old lits.old heads.new out.new lits.new }
+    ensures { (gs ts : Table Span) → Lent gs given.now.rules.now given.now.rows.now → Holds ts table.now.rules.now table.now.rows.now table.now.text.now → PassAnswer result (each (step_of step (resolve_table given.now.text.now gs)) (resolve_table table.now.text.now ts)) heads.old out.old lits.old heads.new out.new lits.new }
 {
-    let count = rules.len() / RULE_WIDTH;
+    let count = table.rules.len() / RULE_WIDTH;
     let mut p = Place { rows: 0, text: 0 };
     // the rules before this one, from rule i on, are known to stay as they are
     let mut next = stay;
     let mut end: usize = 0;
     for i in 0..count {
-        end += rules[i * RULE_WIDTH + ROWS] as usize;
+        end += table.rules[i * RULE_WIDTH + ROWS] as usize;
         p = one_rule(
             step,
-            heads0,
-            rows0,
-            text0,
+            given,
             marks,
-            rules,
-            rows,
-            text,
+            table,
             i,
             end - 1,
             i < next,
@@ -306,7 +287,7 @@ pub fn pass(
             p,
         )?;
         if i == next {
-            next = first_fired(step, rules, rows, text, i + 1, end);
+            next = first_fired(step, table, i + 1, end);
         }
     }
     Some(p)

@@ -22,7 +22,7 @@ use Rattle.rows.specs.declared.Shape.{Shape}
 use Rattle.rows.proofs.Laws.{head_of, below, flat_root, length_flat, size_pos, root, root_found, at_un, at_left_lem, at_right_lem, at_strs, at_first, at_others}
 use Rattle.rows.proofs.Cells.{lit_shape, fixed_shape, un_shape, bin_shape, skip_shape, tells_iff, tells_eqb}
 use Rattle.rows.proofs.Views.{shape_in, shape_in_lem, as_lit, lit_is}
-use Rattle.refusals.proofs.Fours.{four}
+use Rattle.rows.proofs.Fours.{four}
 use Rattle.refusals.specs.Local.{up_to, unused_zero, OneFits, TwoFits, SkipFits, Below, RowFits, IsTree}
 
 -- ---- the head of a row that is right is that of a node
@@ -282,7 +282,7 @@ module _ {w : List ℕ} {i : ℕ} where
 
 next_row : (w : List ℕ) (i : ℕ) → i * row_width + row_width ≤ length w → take (i * row_width + row_width) w ≡ take (i * row_width) w ++ row (kind_at w i, x_at w i, y_at w i) (size_at w i)
 unfolding kind_at x_at y_at size_at
-next_row w i h = take-add (i * row_width) 4 w ∙ ap (λ (l : List ℕ). take (i * row_width) w ++ take 4 l) (four w i h)
+next_row w i h = take-add (i * row_width) 4 w ∙ ap (λ (l : List ℕ). take (i * row_width) w ++ take 4 l) (four w (i * row_width) h)
 
 -- a node over the top of the pile, whose row comes next
 record Pile (ok : Kinds) (w : List ℕ) (i : ℕ) : Type 0 where

@@ -19,7 +19,7 @@ use Rattle.grammar.proofs.Words.{tree_is, flat_length}
 use Rattle.rows.specs.Rows.{Tells}
 use Rattle.rows.proofs.Cells.{tells_iff, tells_eqb}
 use Rattle.refusals.specs.Local.{IsTree, IsTable}
-use Rattle.refusals.proofs.Fours.{four}
+use Rattle.rows.proofs.Fours.{four}
 
 -- what a table's words say of its first rule
 record Parts (ok : Kinds) (y n : ℕ) (rules rows : List ℕ) : Type 0 where
@@ -75,7 +75,7 @@ module _ (ok : Kinds) (rules rows : List ℕ) (i from n : ℕ) (inside : i * rul
   head_is : drop (i * rule_width) rules ≡ get_or rules (i * rule_width) 0 ∷ get_or rules (i * rule_width + length_word) 0 ∷ type_of ∷ n ∷ drop ((i + 1) * rule_width) rules
   head_is =
       let e : i * rule_width + rule_width ≡ (i + 1) * rule_width = omega arith in
-      four rules i inside ∙ ap₂ (λ (k m : ℕ). get_or rules (i * rule_width) 0 ∷ get_or rules (i * rule_width + length_word) 0 ∷ type_of ∷ k ∷ drop m rules) (sym count) e
+      four rules (i * rule_width) inside ∙ ap₂ (λ (k m : ℕ). get_or rules (i * rule_width) 0 ∷ get_or rules (i * rule_width + length_word) 0 ∷ type_of ∷ k ∷ drop m rules) (sym count) e
 
   here_parts : Here → Parts ok type_of n (drop ((i + 1) * rule_width) rules) (drop (from * row_width) rows)
   here_parts t = parts ok _ _ type_of n (drop ((i + 1) * rule_width) rules) (drop (from * row_width) rows) (subst (λ (w : List ℕ). IsTable ok w (drop (from * row_width) rows)) head_is t)

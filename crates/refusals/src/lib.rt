@@ -12,11 +12,11 @@ ghost use Rattle.refusals.specs.Bytes.{any_four, bad_name, bad_row, zero_row, Hi
 ghost use Rattle.refusals.specs.Check.{lent, NamesChecked, Checked};
 
 use grammar::{
-    IDENT, LAST_ASCII, LENGTH, MARK_WIDTH, NON_ATOMIC, PEEK_SLICE, PEEK_SLICE_END, POS_PRED, PUSH,
-    RANGE, REP_EXACT, REP_MAX, REP_MIN_MAX, ROW_WIDTH, ROWS, RULE_WIDTH, Refusal, SIZE, STR, TYPE,
-    X, Y,
+    IDENT, LAST_ASCII, LENGTH, LentTable, MARK_WIDTH, NON_ATOMIC, PEEK_SLICE, PEEK_SLICE_END,
+    POS_PRED, PUSH, RANGE, REP_EXACT, REP_MAX, REP_MIN_MAX, ROW_WIDTH, ROWS, RULE_WIDTH, Refusal,
+    SIZE, STR, TYPE, X, Y,
 };
-use rows::{Shape, wide};
+use rows::Shape;
 
 // Full size: 256 rules, 4,096 rows, 65,536 bytes of text.
 pub const FULL_RULES: usize = 256 * RULE_WIDTH;
@@ -40,14 +40,14 @@ const LAST_OF_STRETCH: usize = 63;
 // ---- refusal 2
 
 // Refusal 2: a word count that is no multiple of four, or an input above full size.
-pub fn bad_counts(rules: &[u32], rows: &[u32], text: &[u8]) -> bool
-    ensures { result ≡ bad_counts (lent rules.now rows.now text.now) }
+pub fn bad_counts(table: &LentTable) -> bool
+    ensures { result ≡ bad_counts (lent table.now.rules.now table.now.rows.now table.now.text.now) }
 {
-    rules.len() % RULE_WIDTH != 0
-        || rows.len() % ROW_WIDTH != 0
-        || FULL_RULES < rules.len()
-        || FULL_ROWS < rows.len()
-        || FULL_TEXT < text.len()
+    table.rules.len() % RULE_WIDTH != 0
+        || table.rows.len() % ROW_WIDTH != 0
+        || FULL_RULES < table.rules.len()
+        || FULL_ROWS < table.rows.len()
+        || FULL_TEXT < table.text.len()
 }
 
 // ---- refusal 3
@@ -178,23 +178,23 @@ fn rule_tree(rows: &[u32], from: usize, to: usize, most: u32) -> bool
 }
 
 // Refusal 3: whether the words are a table's, with kinds up to `most`.
-pub fn trees(rules: &[u32], rows: &[u32], most: u32) -> bool
-    requires { (length rules.now % rule_width ≡ 0) × (length rows.now % row_width ≡ 0) × (most ≤ k_restore_on_err) }
-    ensures { Tells result (IsTable (up_to most) rules.now rows.now) }
+pub fn trees(table: &LentTable, most: u32) -> bool
+    requires { (length table.now.rules.now % rule_width ≡ 0) × (length table.now.rows.now % row_width ≡ 0) × (most ≤ k_restore_on_err) }
+    ensures { Tells result (IsTable (up_to most) table.now.rules.now table.now.rows.now) }
 {
-    let count = rules.len() / RULE_WIDTH;
-    let total = rows.len() / ROW_WIDTH;
+    let count = table.rules.len() / RULE_WIDTH;
+    let total = table.rows.len() / ROW_WIDTH;
     let mut from = 0;
     for i in 0..count {
         let at = i * RULE_WIDTH;
-        if rules[at + TYPE] > NON_ATOMIC {
+        if table.rules[at + TYPE] > NON_ATOMIC {
             return false;
         }
-        let n = rules[at + ROWS] as usize;
+        let n = table.rules[at + ROWS] as usize;
         if total - from < n {
             return false;
         }
-        if !rule_tree(rows, from, from + n, most) {
+        if !rule_tree(table.rows, from, from + n, most) {
             return false;
         }
         from += n;
@@ -296,12 +296,15 @@ fn any_four<F: Fn(u32, u32, u32) -> bool>(words: &[u32], test: F) -> bool
 }
 
 // Whether some name is refused.
-fn bad_rules(rules: &[u32], text: &[u8], marks: &[u32], first: usize) -> bool
-    requires high { High text.now 0 first }
-    requires indexed { Indexed text.now marks.now }
-    ensures { result ≡ any_four (bad_name text.now) rules.now }
+fn bad_rules(table: &LentTable, marks: &[u32], first: usize) -> bool
+    requires high { High table.now.text.now 0 first }
+    requires indexed { Indexed table.now.text.now marks.now }
+    ensures { result ≡ any_four (bad_name table.now.text.now) table.now.rules.now }
 {
-    any_four(rules, |x, n, _| bad_span(text, marks, first, x, n))
+    any_four(
+        table.rules,
+        |x, n, _| bad_span(table.text, marks, first, x, n),
+    )
 }
 
 // Whether a row's literal or Range is refused.
@@ -321,43 +324,50 @@ fn bad_row(text: &[u8], marks: &[u32], first: usize, kind: u32, x: u32, y: u32) 
 }
 
 // Whether some row's literal or Range is refused.
-fn bad_rows(rows: &[u32], text: &[u8], marks: &[u32], first: usize) -> bool
-    requires high { High text.now 0 first }
-    requires indexed { Indexed text.now marks.now }
-    ensures { result ≡ any_four (bad_row text.now) rows.now }
+fn bad_rows(table: &LentTable, marks: &[u32], first: usize) -> bool
+    requires high { High table.now.text.now 0 first }
+    requires indexed { Indexed table.now.text.now marks.now }
+    ensures { result ≡ any_four (bad_row table.now.text.now) table.now.rows.now }
 {
-    any_four(rows, |kind, x, y| bad_row(text, marks, first, kind, x, y))
+    any_four(
+        table.rows,
+        |kind, x, y| bad_row(table.text, marks, first, kind, x, y),
+    )
 }
 
 // Refusal 4: some name or literal is not in the text or not ASCII, or some Range is not.
-pub fn bad_text(rules: &[u32], rows: &[u32], text: &[u8], marks: &mut [u32]) -> bool
-    requires { (length text.now ≤ max_text) × (full_marks ≤ length marks.old) }
-    ensures { result ≡ (any_four (bad_name text.now) rules.now || any_four (bad_row text.now) rows.now) }
+pub fn bad_text(table: &LentTable, marks: &mut [u32]) -> bool
+    requires { (length table.now.text.now ≤ max_text) × (full_marks ≤ length marks.old) }
+    ensures { result ≡ (any_four (bad_name table.now.text.now) table.now.rules.now || any_four (bad_row table.now.text.now) table.now.rows.now) }
 {
-    let first = index_high(text, marks);
-    bad_rules(rules, text, marks, first) || bad_rows(rows, text, marks, first)
+    let first = index_high(table.text, marks);
+    bad_rules(table, marks, first) || bad_rows(table, marks, first)
 }
 
 // ---- refusal 5
 
 // Whether rule i's name is reserved.
-fn name_reserved(rules: &[u32], text: &[u8], i: usize) -> bool
-    requires names_inside { NamesInside rules.now (length text.now) }
-    requires i_in_bounds { i < length rules.now / rule_width }
-    ensures { result ≡ member (name_of rules.now text.now i) reserved }
+fn name_reserved(table: &LentTable, i: usize) -> bool
+    requires names_inside { NamesInside table.now.rules.now (length table.now.text.now) }
+    requires i_in_bounds { i < length table.now.rules.now / rule_width }
+    ensures { result ≡ member (name_of table.now.rules.now table.now.text.now i) reserved }
 {
     let at = i * RULE_WIDTH;
-    names::reserved(text, rules[at] as usize, rules[at + LENGTH] as usize)
+    names::reserved(
+        table.text,
+        table.rules[at] as usize,
+        table.rules[at + LENGTH] as usize,
+    )
 }
 
 // Whether no name is reserved.
-fn none_reserved(rules: &[u32], text: &[u8]) -> bool
-    requires { NamesInside rules.now (length text.now) }
-    ensures { Tells result ((i : ℕ) → i < length rules.now / rule_width → member (name_of rules.now text.now i) reserved ≡ false) }
+fn none_reserved(table: &LentTable) -> bool
+    requires { NamesInside table.now.rules.now (length table.now.text.now) }
+    ensures { Tells result ((i : ℕ) → i < length table.now.rules.now / rule_width → member (name_of table.now.rules.now table.now.text.now i) reserved ≡ false) }
 {
-    let count = rules.len() / RULE_WIDTH;
+    let count = table.rules.len() / RULE_WIDTH;
     for i in 0..count {
-        if name_reserved(rules, text, i) {
+        if name_reserved(table, i) {
             return false;
         }
     }
@@ -388,39 +398,39 @@ pub fn zero_counts(rows: &[u32]) -> bool
 // ---- the check
 
 // Refusals 5 and 6 of a table that can be read and whose names and literals are right. The marks then hold the index of names and the rules' ends.
-fn check_names(rules: &[u32], rows: &[u32], text: &[u8], marks: &mut [u32]) -> Result<(), Refusal>
-    requires names_inside { NamesInside rules.now (length text.now) }
-    requires mark_width_in_bounds { (length rules.now / rule_width * mark_width ≤ length marks.old) × (length rules.now / rule_width < few_rules) × (length text.now ≤ max_text) × (rows_before rules.now (length rules.now / rule_width) < 2 ^ 32) }
-    ensures { NamesChecked result rules.now rows.now text.now marks.new }
+fn check_names(table: &LentTable, marks: &mut [u32]) -> Result<(), Refusal>
+    requires names_inside { NamesInside table.now.rules.now (length table.now.text.now) }
+    requires mark_width_in_bounds { (length table.now.rules.now / rule_width * mark_width ≤ length marks.old) × (length table.now.rules.now / rule_width < few_rules) × (length table.now.text.now ≤ max_text) × (rows_before table.now.rules.now (length table.now.rules.now / rule_width) < 2 ^ 32) }
+    ensures { NamesChecked result table.now.rules.now table.now.rows.now table.now.text.now marks.new }
 {
-    if !names::index_names(rules, text, marks) {
+    if !names::index_names(table, marks) {
         return Err(Refusal::Names);
     }
-    if !none_reserved(rules, text) {
+    if !none_reserved(table) {
         return Err(Refusal::Names);
     }
-    if zero_counts(rows) {
+    if zero_counts(table.rows) {
         return Err(Refusal::Count);
     }
-    names::mark_ends(rules, marks);
+    names::mark_ends(table.rules, marks);
     Ok(())
 }
 
 // Refusals 2 to 6: the lowest that holds. Where none does, a table stands there, and the marks hold the index of its names and its rules' ends.
 // Each row is read three times, each byte once or twice, each name compared with one other, and a literal past a byte above 127 costs at most 64
 // bytes more.
-pub fn check(rules: &[u32], rows: &[u32], text: &[u8], marks: &mut [u32]) -> Result<(), Refusal>
+pub fn check(table: &LentTable, marks: &mut [u32]) -> Result<(), Refusal>
     requires { full_marks ≤ length marks.old }
-    ensures { Checked result (lent rules.now rows.now text.now) marks.new }
+    ensures { Checked result (lent table.now.rules.now table.now.rows.now table.now.text.now) marks.new }
 {
-    if bad_counts(rules, rows, text) {
+    if bad_counts(table) {
         return Err(Refusal::Size);
     }
-    if !trees(rules, rows, PUSH) {
+    if !trees(table, PUSH) {
         return Err(Refusal::Shape);
     }
-    if bad_text(rules, rows, text, marks) {
+    if bad_text(table, marks) {
         return Err(Refusal::Text);
     }
-    check_names(rules, rows, text, marks)
+    check_names(table, marks)
 }

@@ -1,7 +1,8 @@
 // Cases of two tables (document 02, No. 1): the right table stands behind the left one.
 use crate::answers::Answers;
-use areas::{Lend, RULES_AREA, Table, WORD};
+use areas::{Lend, RULES_AREA, WORD};
 use comparer::{FULL_LIST, Literal, Refused};
+use grammar::LentTable;
 use refusals::FULL_MARKS;
 use std::io;
 
@@ -22,8 +23,8 @@ pub struct Place {
 pub fn answer(
     answers: &mut Answers,
     lend: Lend,
-    left: Table<'_>,
-    right: Table<'_>,
+    left: LentTable<'_>,
+    right: LentTable<'_>,
     at: Place,
 ) -> io::Result<()> {
     let mut list = [WORD; LIST_AREA];
@@ -43,35 +44,21 @@ pub fn answer(
 // The call, with marks of its own: how many entries it lists.
 fn compared(
     lend: Lend,
-    left: Table<'_>,
-    right: Table<'_>,
+    left: LentTable<'_>,
+    right: LentTable<'_>,
     list: &mut [u32],
 ) -> Result<u32, Refused> {
     let mut left_marks = [WORD; RULES_AREA];
     let mut right_marks = [WORD; RULES_AREA];
     comparer::compare(
-        left.rules,
-        left.rows,
-        left.text,
-        right.rules,
-        right.rows,
-        right.text,
+        &left,
+        &right,
         lend.part(list, FULL_LIST, 1),
         lend.part(&mut left_marks, FULL_MARKS, 2),
         lend.part(&mut right_marks, FULL_MARKS, 3),
     )
 }
 
-fn literal(left: Table<'_>, right: Table<'_>, at: Place) -> Option<Literal> {
-    comparer::place(
-        left.rules,
-        left.rows,
-        left.text,
-        right.rules,
-        right.rows,
-        right.text,
-        at.side,
-        at.rule,
-        at.row,
-    )
+fn literal(left: LentTable<'_>, right: LentTable<'_>, at: Place) -> Option<Literal> {
+    comparer::place(&left, &right, at.side, at.rule, at.row)
 }

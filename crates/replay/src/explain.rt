@@ -1,15 +1,20 @@
 // Cases of a table and a row (document 02, No. 2): the row stands behind the table.
 use crate::answers::Answers;
-use areas::{Lend, RULES_AREA, Table, WORD};
+use areas::{Lend, RULES_AREA, WORD};
 use explainer::{Explained, FULL_LIST};
-use grammar::Refusal;
+use grammar::{LentTable, Refusal};
 use refusals::FULL_MARKS;
 use std::io;
 
 // The list's area, 16 words above full size.
 const LIST_AREA: usize = 272;
 
-pub fn answer(answers: &mut Answers, lend: Lend, table: Table<'_>, row: usize) -> io::Result<()> {
+pub fn answer(
+    answers: &mut Answers,
+    lend: Lend,
+    table: LentTable<'_>,
+    row: usize,
+) -> io::Result<()> {
     let mut list = [WORD; LIST_AREA];
     let (number, answer, rule, at, met, opened) = match explained(lend, table, row, &mut list) {
         Ok(e) => (0, e.answer as u32, e.rule, e.at, e.met, e.opened),
@@ -21,12 +26,15 @@ pub fn answer(answers: &mut Answers, lend: Lend, table: Table<'_>, row: usize) -
 }
 
 // The call, with marks of its own.
-fn explained(lend: Lend, t: Table<'_>, row: usize, list: &mut [u32]) -> Result<Explained, Refusal> {
+fn explained(
+    lend: Lend,
+    t: LentTable<'_>,
+    row: usize,
+    list: &mut [u32],
+) -> Result<Explained, Refusal> {
     let mut marks = [WORD; RULES_AREA];
     explainer::explain(
-        t.rules,
-        t.rows,
-        t.text,
+        &t,
         row,
         lend.part(list, FULL_LIST, 1),
         lend.part(&mut marks, FULL_MARKS, 2),

@@ -1,5 +1,6 @@
 // Reading cases.
-use areas::{ROWS_AREA, RULES_AREA, Table};
+use areas::{ROWS_AREA, RULES_AREA};
+use grammar::LentTable;
 use std::io;
 use std::io::{ErrorKind, Read, Stdin};
 
@@ -73,7 +74,7 @@ impl Case {
     }
 
     // The next case, its table and its fourth word; none, if it is cut off or counts more than is carried.
-    pub fn next(&mut self, input: &mut Input) -> Option<(Table<'_>, u32)> {
+    pub fn next(&mut self, input: &mut Input) -> Option<(LentTable<'_>, u32)> {
         let [rules, rows, text, last] = input.words()?;
         let (rules, rows, text) = (rules as usize, rows as usize, text as usize);
         if rules > RULES_AREA || rows > ROWS_AREA || text > TEXT {
@@ -89,7 +90,7 @@ impl Case {
         let (row_bytes, rest) = rest.split_at(4 * rows);
         decode(rule_bytes, rule_area);
         decode(row_bytes, row_area);
-        let table = Table {
+        let table = LentTable {
             rules: &rule_area[..rules],
             rows: &row_area[..rows],
             text: &rest[..text],

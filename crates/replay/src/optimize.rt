@@ -1,11 +1,11 @@
 // Cases of a table.
 use crate::answers::Answers;
-use areas::{Areas, BYTE, Lend, Table};
-use grammar::{ROW_WIDTH, RULE_WIDTH};
+use areas::{Areas, BYTE, Lend};
+use grammar::{LentTable, ROW_WIDTH, RULE_WIDTH};
 use optimizer::REPORT;
 use std::io;
 
-pub fn answer(answers: &mut Answers, lend: Lend, table: Table<'_>) -> io::Result<()> {
+pub fn answer(answers: &mut Answers, lend: Lend, table: LentTable<'_>) -> io::Result<()> {
     let mut out = Areas::new();
     let (number, rules, rows, text, report) = match areas::answer(lend, table, &mut out) {
         Ok(a) => {

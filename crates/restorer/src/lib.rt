@@ -24,7 +24,8 @@ ghost use Rattle.restorer.specs.Restores.{is_guard, shows_through, SettledNo, gu
 ghost use Rattle.chains.specs.Runs.{ups};
 
 use grammar::{
-    CHOICE, IDENT, MARK_WIDTH, OPT, PUSH, REP, RESTORE_ON_ERR, ROW_WIDTH, ROWS, RULE_WIDTH, SKIP,
+    CHOICE, IDENT, LentTable, MARK_WIDTH, OPT, PUSH, REP, RESTORE_ON_ERR, ROW_WIDTH, ROWS,
+    RULE_WIDTH, SKIP,
 };
 use names::{END, MEMORY};
 use rows::Shape;
@@ -89,38 +90,38 @@ fn recall(marks: &[u32], k: usize, i: usize) -> Step
 }
 
 // The step from row i, which is an Ident.
-fn named(rules: &[u32], rows: &[u32], text: &[u8], marks: &[u32], i: usize) -> Step
-    requires given { Given rules.now rows.now text.now marks.now }
-    requires i_in_bounds { i < length rows.now / row_width }
-    requires i_value { kind_at rows.now i ≡ k_ident }
-    ensures unseen { Unseen result rules.now marks.now }
-    ensures goes_on { (r : Expr Span) → At rows.now i r → GoesOn result rows.now i r }
-    ensures visited { (t : Table Span) (r : Expr Span) → Lent t rules.now rows.now → At rows.now i r → Right (resolve_table text.now t) marks.now → Visited result text.now (resolve_table text.now t) marks.now r }
+fn named(table: &LentTable, marks: &[u32], i: usize) -> Step
+    requires given { Given table.now.rules.now table.now.rows.now table.now.text.now marks.now }
+    requires i_in_bounds { i < length table.now.rows.now / row_width }
+    requires i_value { kind_at table.now.rows.now i ≡ k_ident }
+    ensures unseen { Unseen result table.now.rules.now marks.now }
+    ensures goes_on { (r : Expr Span) → At table.now.rows.now i r → GoesOn result table.now.rows.now i r }
+    ensures visited { (t : Table Span) (r : Expr Span) → Lent t table.now.rules.now table.now.rows.now → At table.now.rows.now i r → Right (resolve_table table.now.text.now t) marks.now → Visited result table.now.text.now (resolve_table table.now.text.now t) marks.now r }
 {
-    let x = rows::x_at(rows, i);
-    let n = rows::y_at(rows, i);
-    if names::changes_stack(text, x, n) {
+    let x = rows::x_at(table.rows, i);
+    let n = rows::y_at(table.rows, i);
+    if names::changes_stack(table.text, x, n) {
         return Step::Changes;
     }
-    let Some(k) = names::find_rule(rules, text, marks, text, x, n) else {
+    let Some(k) = names::find_rule(table, marks, table.text, x, n) else {
         return Step::Next(i, NOWHERE);
     };
     recall(marks, k, i)
 }
 
 // What row i says of the stack.
-fn visit(rules: &[u32], rows: &[u32], text: &[u8], marks: &[u32], i: usize) -> Step
-    requires given { Given rules.now rows.now text.now marks.now }
-    requires stands { Stands rows.now i }
-    ensures unseen { Unseen result rules.now marks.now }
-    ensures goes_on { (r : Expr Span) → At rows.now i r → GoesOn result rows.now i r }
-    ensures visited { (t : Table Span) (r : Expr Span) → Lent t rules.now rows.now → At rows.now i r → Right (resolve_table text.now t) marks.now → Visited result text.now (resolve_table text.now t) marks.now r }
+fn visit(table: &LentTable, marks: &[u32], i: usize) -> Step
+    requires given { Given table.now.rules.now table.now.rows.now table.now.text.now marks.now }
+    requires stands { Stands table.now.rows.now i }
+    ensures unseen { Unseen result table.now.rules.now marks.now }
+    ensures goes_on { (r : Expr Span) → At table.now.rows.now i r → GoesOn result table.now.rows.now i r }
+    ensures visited { (t : Table Span) (r : Expr Span) → Lent t table.now.rules.now table.now.rows.now → At table.now.rows.now i r → Right (resolve_table table.now.text.now t) marks.now → Visited result table.now.text.now (resolve_table table.now.text.now t) marks.now r }
 {
-    let kind = rows::kind_at(rows, i);
+    let kind = rows::kind_at(table.rows, i);
     if kind != IDENT {
-        return step_from(kind, i, rows::size_at(rows, i));
+        return step_from(kind, i, rows::size_at(table.rows, i));
     }
-    named(rules, rows, text, marks, i)
+    named(table, marks, i)
 }
 
 // Opens rule i at position `top`.
@@ -167,32 +168,22 @@ fn leave(marks: &mut [u32], stack: &[u32], a: Outcome, top: usize) -> Outcome
 
 // Whether the stack can change through rule i, which was not seen and is opened at position `top`, as far as this search can tell.
 #[cycle(look_walk)]
-fn look(
-    rules: &[u32],
-    rows: &[u32],
-    text: &[u8],
-    marks: &mut [u32],
-    stack: &mut [u32],
-    i: usize,
-    top: usize,
-) -> Outcome
-    requires searching { Searching rules.now rows.now text.now marks.old stack.old top }
-    requires i_in_bounds { i < length rules.now / rule_width }
+fn look(table: &LentTable, marks: &mut [u32], stack: &mut [u32], i: usize, top: usize) -> Outcome
+    requires searching { Searching table.now.rules.now table.now.rows.now table.now.text.now marks.old stack.old top }
+    requires i_in_bounds { i < length table.now.rules.now / rule_width }
     requires i_value { state_of marks.old i ≡ 0 }
-    ensures ran { Ran (length rules.now / rule_width) marks.old marks.new stack.new top (top_of result) }
+    ensures ran { Ran (length table.now.rules.now / rule_width) marks.old marks.new stack.new top (top_of result) }
     ensures left { Left result top }
-    ensures looked { (t : Table Span) → Lent t rules.now rows.now → Right (resolve_table text.now t) marks.old → Looked result (resolve_table text.now t) top marks.old marks.new i }
+    ensures looked { (t : Table Span) → Lent t table.now.rules.now table.now.rows.now → Right (resolve_table table.now.text.now t) marks.old → Looked result (resolve_table table.now.text.now t) top marks.old marks.new i }
 {
     let at = i * RULE_WIDTH;
     let end = marks[i * MARK_WIDTH + END] as usize;
     enter(marks, stack, i, top);
     let a = walk(
-        rules,
-        rows,
-        text,
+        table,
         marks,
         stack,
-        end - rules[at + ROWS] as usize,
+        end - table.rules[at + ROWS] as usize,
         end,
         top + 1,
     );
@@ -202,26 +193,24 @@ fn look(
 // Whether the stack can change through the tree of the rows from `from` to `end`, as far as this search can tell.
 #[cycle(look_walk)]
 fn walk(
-    rules: &[u32],
-    rows: &[u32],
-    text: &[u8],
+    table: &LentTable,
     marks: &mut [u32],
     stack: &mut [u32],
     from: usize,
     end: usize,
     top: usize,
 ) -> Outcome
-    requires searching { Searching rules.now rows.now text.now marks.old stack.old top }
-    requires tree_rows { TreeRows rows.now from end }
-    ensures ran { Ran (length rules.now / rule_width) marks.old marks.new stack.new top (top_of result) }
-    ensures walked { (t : Table Span) (r : Expr Span) → Lent t rules.now rows.now → At rows.now (end - 1) r → Right (resolve_table text.now t) marks.old → Walked result (resolve_table text.now t) top marks.old marks.new (resolve text.now r) }
+    requires searching { Searching table.now.rules.now table.now.rows.now table.now.text.now marks.old stack.old top }
+    requires tree_rows { TreeRows table.now.rows.now from end }
+    ensures ran { Ran (length table.now.rules.now / rule_width) marks.old marks.new stack.new top (top_of result) }
+    ensures walked { (t : Table Span) (r : Expr Span) → Lent t table.now.rules.now table.now.rows.now → At table.now.rows.now (end - 1) r → Right (resolve_table table.now.text.now t) marks.old → Walked result (resolve_table table.now.text.now t) top marks.old marks.new (resolve table.now.text.now r) }
 {
     let mut i = end;
     let mut low = NOWHERE;
     let mut high = top;
     while from < i {
         // a call for a rule that was not seen, none for a row
-        match visit(rules, rows, text, marks, i - 1) {
+        match visit(table, marks, i - 1) {
             Step::Changes => {
                 return Outcome::Reached(high);
             }
@@ -230,7 +219,7 @@ fn walk(
                 low = low.min(l);
             }
             Step::Into(k) => {
-                match look(rules, rows, text, marks, stack, k, high) {
+                match look(table, marks, stack, k, high) {
                     Outcome::Reached(h) => {
                         return Outcome::Reached(h);
                     }
@@ -247,66 +236,59 @@ fn walk(
 }
 
 // Settles rule i and what it leads to. Where a change is reached, every rule that is open leads to it.
-fn settle_rule(
-    rules: &[u32],
-    rows: &[u32],
-    text: &[u8],
-    marks: &mut [u32],
-    stack: &mut [u32],
-    i: usize,
-)
-    requires searching { Searching rules.now rows.now text.now marks.old stack.old 0 }
-    requires i_in_bounds { i < length rules.now / rule_width }
+fn settle_rule(table: &LentTable, marks: &mut [u32], stack: &mut [u32], i: usize)
+    requires searching { Searching table.now.rules.now table.now.rows.now table.now.text.now marks.old stack.old 0 }
+    requires i_in_bounds { i < length table.now.rules.now / rule_width }
     ensures steady { Steady marks.old marks.new }
-    ensures stacked { Stacked (length rules.now / rule_width) marks.new stack.new 0 }
-    ensures rule_settled { (t : Table Span) → Lent t rules.now rows.now → Right (resolve_table text.now t) marks.old → RuleSettled (resolve_table text.now t) marks.old marks.new i }
+    ensures stacked { Stacked (length table.now.rules.now / rule_width) marks.new stack.new 0 }
+    ensures rule_settled { (t : Table Span) → Lent t table.now.rules.now table.now.rows.now → Right (resolve_table table.now.text.now t) marks.old → RuleSettled (resolve_table table.now.text.now t) marks.old marks.new i }
 {
     if marks[i * MARK_WIDTH + MEMORY] != UNSEEN {
         return;
     }
-    let Outcome::Reached(top) = look(rules, rows, text, marks, stack, i, 0) else {
+    let Outcome::Reached(top) = look(table, marks, stack, i, 0) else {
         return;
     };
     close(marks, stack, 0, top, YES);
 }
 
 // Settles every rule of the table: whether the stack can change through it. Each is walked once; `stack` is room for the open ones.
-pub fn settle(rules: &[u32], rows: &[u32], text: &[u8], marks: &mut [u32], stack: &mut [u32])
-    requires marked { Marked rules.now rows.now text.now marks.old }
-    requires rows_len_bound { length rows.now < 2 ^ 32 }
-    requires rule_width_in_bounds { length rules.now / rule_width ≤ length stack.old }
-    ensures given { Given rules.now rows.now text.now marks.new }
-    ensures settles { Settles rules.now rows.now text.now marks.new }
+pub fn settle(table: &LentTable, marks: &mut [u32], stack: &mut [u32])
+    requires marked { Marked table.now.rules.now table.now.rows.now table.now.text.now marks.old }
+    requires rows_len_bound { length table.now.rows.now < 2 ^ 32 }
+    requires rule_width_in_bounds { length table.now.rules.now / rule_width ≤ length stack.old }
+    ensures given { Given table.now.rules.now table.now.rows.now table.now.text.now marks.new }
+    ensures settles { Settles table.now.rules.now table.now.rows.now table.now.text.now marks.new }
 {
-    names::mark_ends(rules, marks);
-    let count = rules.len() / RULE_WIDTH;
+    names::mark_ends(table.rules, marks);
+    let count = table.rules.len() / RULE_WIDTH;
     names::forget(marks, count);
     for i in 0..count {
-        settle_rule(rules, rows, text, marks, stack, i);
+        settle_rule(table, marks, stack, i);
     }
 }
 
 // Whether the name of row i, which is an Ident, changes the stack by itself.
-fn name_stirs(rows: &[u32], text: &[u8], i: usize) -> bool
-    requires inside { Inside rows.now (length text.now) }
-    requires i_in_bounds { i < length rows.now / row_width }
-    requires i_value { kind_at rows.now i ≡ k_ident }
-    ensures { result ≡ member (bytes_at text.now (x_at rows.now i, y_at rows.now i)) stack_names }
+fn name_stirs(table: &LentTable, i: usize) -> bool
+    requires inside { Inside table.now.rows.now (length table.now.text.now) }
+    requires i_in_bounds { i < length table.now.rows.now / row_width }
+    requires i_value { kind_at table.now.rows.now i ≡ k_ident }
+    ensures { result ≡ member (bytes_at table.now.text.now (x_at table.now.rows.now i, y_at table.now.rows.now i)) stack_names }
 {
-    let x = rows::x_at(rows, i);
-    let n = rows::y_at(rows, i);
-    names::changes_stack(text, x, n)
+    let x = rows::x_at(table.rows, i);
+    let n = rows::y_at(table.rows, i);
+    names::changes_stack(table.text, x, n)
 }
 
 // Whether no row of a table changes the stack by itself: no Push, no DROP, no POP. Then step 7 changes nothing of it.
-pub fn still(rows: &[u32], text: &[u8]) -> bool
-    requires { Inside rows.now (length text.now) }
-    ensures { result ≡ true → (t : Table Span) → row_words t ≡ rows.now → steps.each (λ _. steps.restore (resolve_table text.now t)) (resolve_table text.now t) ≡ resolve_table text.now t }
+pub fn still(table: &LentTable) -> bool
+    requires { Inside table.now.rows.now (length table.now.text.now) }
+    ensures { result ≡ true → (t : Table Span) → row_words t ≡ table.now.rows.now → steps.each (λ _. steps.restore (resolve_table table.now.text.now t)) (resolve_table table.now.text.now t) ≡ resolve_table table.now.text.now t }
 {
-    let count = rows.len() / ROW_WIDTH;
+    let count = table.rows.len() / ROW_WIDTH;
     for i in 0..count {
-        let k = rows::kind_at(rows, i);
-        if k == PUSH || k == IDENT && name_stirs(rows, text, i) {
+        let k = rows::kind_at(table.rows, i);
+        if k == PUSH || k == IDENT && name_stirs(table, i) {
             return false;
         }
     }
@@ -345,37 +327,33 @@ fn node(
 }
 
 // Whether the stack can change through the name of n bytes at x.
-fn through(rules: &[u32], marks: &[u32], text: &[u8], x: usize, n: usize) -> bool
-    requires all_indexed { AllIndexed rules.now text.now marks.now }
-    requires n_in_bounds { x + n ≤ length text.now }
-    ensures { (t : Table Bytes) → Sure t rules.now text.now marks.now → result ≡ changes t (tree.lit tree.Ident (bytes_at text.now (x, n))) }
+fn through(table: &LentTable, marks: &[u32], x: usize, n: usize) -> bool
+    requires all_indexed { AllIndexed table.now.rules.now table.now.text.now marks.now }
+    requires n_in_bounds { x + n ≤ length table.now.text.now }
+    ensures { (t : Table Bytes) → Sure t table.now.rules.now table.now.text.now marks.now → result ≡ changes t (tree.lit tree.Ident (bytes_at table.now.text.now (x, n))) }
 {
-    if names::changes_stack(text, x, n) {
+    if names::changes_stack(table.text, x, n) {
         return true;
     }
-    let Some(i) = names::find_rule(rules, text, marks, text, x, n) else {
+    let Some(i) = names::find_rule(table, marks, table.text, x, n) else {
         return false;
     };
     marks[i * MARK_WIDTH + MEMORY] == YES
 }
 
 // Whether the stack can change through a literal of a kind: only through a name.
-fn stirs(rules: &[u32], marks: &[u32], text: &[u8], kind: u32, x: usize, n: usize) -> bool
-    requires all_indexed { AllIndexed rules.now text.now marks.now }
-    requires n_in_bounds { x + n ≤ length text.now }
-    ensures { (t : Table Bytes) (k : tree.Lit) → Sure t rules.now text.now marks.now → kind ≡ tree.lit_kind k → result ≡ changes t (tree.lit k (bytes_at text.now (x, n))) }
+fn stirs(table: &LentTable, marks: &[u32], kind: u32, x: usize, n: usize) -> bool
+    requires all_indexed { AllIndexed table.now.rules.now table.now.text.now marks.now }
+    requires n_in_bounds { x + n ≤ length table.now.text.now }
+    ensures { (t : Table Bytes) (k : tree.Lit) → Sure t table.now.rules.now table.now.text.now marks.now → kind ≡ tree.lit_kind k → result ≡ changes t (tree.lit k (bytes_at table.now.text.now (x, n))) }
 {
-    if kind != IDENT {
-        return false;
-    }
-    through(rules, marks, text, x, n)
+    kind == IDENT && through(table, marks, x, n)
 }
 
 // Writes a literal at p.
 fn literal(
-    rules: &[u32],
+    table: &LentTable,
     marks: &[u32],
-    text: &[u8],
     kind: u32,
     x: u32,
     y: u32,
@@ -383,32 +361,31 @@ fn literal(
     lits: &mut [u8],
     p: Place,
 ) -> Option<(Place, bool)>
-    requires all_indexed { AllIndexed rules.now text.now marks.now }
-    requires y_in_bounds { x + y ≤ length text.now }
+    requires all_indexed { AllIndexed table.now.rules.now table.now.text.now marks.now }
+    requires y_in_bounds { x + y ≤ length table.now.text.now }
     requires room { Room p out.old lits.old }
-    ensures { (t : Table Bytes) (k : tree.Lit) → Sure t rules.now text.now marks.now → kind ≡ tree.lit_kind k → RestoredAnswer result p t (tree.lit k (bytes_at text.now (x, y))) out.old out.new lits.old lits.new }
+    ensures { (t : Table Bytes) (k : tree.Lit) → Sure t table.now.rules.now table.now.text.now marks.now → kind ≡ tree.lit_kind k → RestoredAnswer result p t (tree.lit k (bytes_at table.now.text.now (x, y))) out.old out.new lits.old lits.new }
 {
     let offset = x as usize;
     let n = y as usize;
-    let q = writing::put_lit(text, offset, n, kind, out, lits, p)?;
-    Some((q, stirs(rules, marks, text, kind, offset, n)))
+    let q = writing::put_lit(table.text, offset, n, kind, out, lits, p)?;
+    Some((q, stirs(table, marks, kind, offset, n)))
 }
 
 // Writes a row of numbers, or a Skip with its strings, at p: nothing shows of it.
 fn plain(
-    rows: &[u32],
-    text: &[u8],
+    table: &LentTable,
     root: usize,
     out: &mut [u32],
     lits: &mut [u8],
     p: Place,
 ) -> Option<(Place, bool)>
-    requires inside { Inside rows.now (length text.now) }
-    requires stands { Stands rows.now root }
+    requires inside { Inside table.now.rows.now (length table.now.text.now) }
+    requires stands { Stands table.now.rows.now root }
     requires room { Room p out.old lits.old }
-    ensures { (t : Table Bytes) (r : Expr Span) → At rows.now root r → changes t (resolve text.now r) ≡ false → RestoredAnswer result p t (resolve text.now r) out.old out.new lits.old lits.new }
+    ensures { (t : Table Bytes) (r : Expr Span) → At table.now.rows.now root r → changes t (resolve table.now.text.now r) ≡ false → RestoredAnswer result p t (resolve table.now.text.now r) out.old out.new lits.old lits.new }
 {
-    let q = writing::copy(rows, text, root, out, lits, p)?;
+    let q = writing::copy(table, root, out, lits, p)?;
     Some((q, false))
 }
 
@@ -469,101 +446,95 @@ fn climb(
 // Writes the subtree of row `root`, which has two children, at p.
 #[cycle(bottom_put_two)]
 fn two(
-    rules: &[u32],
+    table: &LentTable,
     marks: &[u32],
-    rows: &[u32],
-    text: &[u8],
     root: usize,
     kind: u32,
     out: &mut [u32],
     lits: &mut [u8],
     p: Place,
 ) -> Option<(Place, bool)>
-    requires known { Known rules.now marks.now rows.now text.now }
-    requires stands { Stands rows.now root }
+    requires known { Known table.now.rules.now marks.now table.now.rows.now table.now.text.now }
+    requires stands { Stands table.now.rows.now root }
     requires room { Room p out.old lits.old }
-    requires row_is { RowIs rows.now root kind 0 0 × (shape_of kind ≡ Two) }
-    ensures { (t : Table Bytes) (r : Expr Span) → Sure t rules.now text.now marks.now → At rows.now root r → RestoredAnswer result p t (steps.restore t (resolve text.now r)) out.old out.new lits.old lits.new }
+    requires row_is { RowIs table.now.rows.now root kind 0 0 × (shape_of kind ≡ Two) }
+    ensures { (t : Table Bytes) (r : Expr Span) → Sure t table.now.rules.now table.now.text.now marks.now → At table.now.rows.now root r → RestoredAnswer result p t (steps.restore t (resolve table.now.text.now r)) out.old out.new lits.old lits.new }
 {
-    let left = rows::left_of(rows, root);
+    let left = rows::left_of(table.rows, root);
     let right = root - 1;
     let guard = guards(kind);
-    let (q, b) = put(rules, marks, rows, text, left, guard, out, lits, p)?;
-    let (s, c) = put(rules, marks, rows, text, right, guard, out, lits, q)?;
+    let (q, b) = put(table, marks, left, guard, out, lits, p)?;
+    let (s, c) = put(table, marks, right, guard, out, lits, q)?;
     node(out, p, s, kind, 0, 0, b || c)
 }
 
 // Writes the subtree of row `root`, which has not one child, at p, restored, and tells what shows of it.
 #[cycle(bottom_put_two)]
 fn bottom(
-    rules: &[u32],
+    table: &LentTable,
     marks: &[u32],
-    rows: &[u32],
-    text: &[u8],
     root: usize,
     out: &mut [u32],
     lits: &mut [u8],
     p: Place,
 ) -> Option<(Place, bool)>
-    requires known { Known rules.now marks.now rows.now text.now }
-    requires stands { Stands rows.now root }
+    requires known { Known table.now.rules.now marks.now table.now.rows.now table.now.text.now }
+    requires stands { Stands table.now.rows.now root }
     requires room { Room p out.old lits.old }
-    requires fact { shape_of (kind_at rows.now root) ≡ One → ⊥ }
-    ensures { (t : Table Bytes) (r : Expr Span) → Sure t rules.now text.now marks.now → At rows.now root r → RestoredAnswer result p t (steps.restore t (resolve text.now r)) out.old out.new lits.old lits.new }
+    requires fact { shape_of (kind_at table.now.rows.now root) ≡ One → ⊥ }
+    ensures { (t : Table Bytes) (r : Expr Span) → Sure t table.now.rules.now table.now.text.now marks.now → At table.now.rows.now root r → RestoredAnswer result p t (steps.restore t (resolve table.now.text.now r)) out.old out.new lits.old lits.new }
 {
-    let row = rows::row_at(rows, root)?;
+    let row = rows::row_at(table.rows, root)?;
     match rows::shape_of(row.kind) {
-        Shape::Two => two(rules, marks, rows, text, root, row.kind, out, lits, p),
-        Shape::Lit => literal(rules, marks, text, row.kind, row.x, row.y, out, lits, p),
-        _ => plain(rows, text, root, out, lits, p),
+        Shape::Two => two(table, marks, root, row.kind, out, lits, p),
+        Shape::Lit => literal(table, marks, row.kind, row.x, row.y, out, lits, p),
+        _ => plain(table, root, out, lits, p),
     }
 }
 
 // Writes the subtree of row `root` at p, restored, and if `guard` under a RestoreOnErr where the stack can change through it.
 #[cycle(bottom_put_two)]
 fn put(
-    rules: &[u32],
+    table: &LentTable,
     marks: &[u32],
-    rows: &[u32],
-    text: &[u8],
     root: usize,
     guard: bool,
     out: &mut [u32],
     lits: &mut [u8],
     p: Place,
 ) -> Option<(Place, bool)>
-    requires known { Known rules.now marks.now rows.now text.now }
-    requires stands { Stands rows.now root }
+    requires known { Known table.now.rules.now marks.now table.now.rows.now table.now.text.now }
+    requires stands { Stands table.now.rows.now root }
     requires room { Room p out.old lits.old }
-    ensures { (t : Table Bytes) (r : Expr Span) → Sure t rules.now text.now marks.now → At rows.now root r → RestoredAnswer result p t (guarded_if t guard (steps.restore t (resolve text.now r))) out.old out.new lits.old lits.new }
+    ensures { (t : Table Bytes) (r : Expr Span) → Sure t table.now.rules.now table.now.text.now marks.now → At table.now.rows.now root r → RestoredAnswer result p t (guarded_if t guard (steps.restore t (resolve table.now.text.now r))) out.old out.new lits.old lits.new }
 {
     // no call for each row of a run: a host's stack is short
-    let base = chains::below(rows, root);
-    let (q, b) = bottom(rules, marks, rows, text, base, out, lits, p)?;
-    climb(rows, base, root, out, p, q, b, guard)
+    let base = chains::below(table.rows, root);
+    let (q, b) = bottom(table, marks, base, out, lits, p)?;
+    climb(table.rows, base, root, out, p, q, b, guard)
 }
 
 // Whether the stack can change through the name of row i, which is an Ident.
-fn name_alters(rules: &[u32], marks: &[u32], rows: &[u32], text: &[u8], i: usize) -> bool
-    requires known { Known rules.now marks.now rows.now text.now }
-    requires i_in_bounds { i < length rows.now / row_width }
-    requires i_value { kind_at rows.now i ≡ k_ident }
-    ensures { (t : Table Bytes) → Sure t rules.now text.now marks.now → result ≡ changes t (tree.lit tree.Ident (bytes_at text.now (x_at rows.now i, y_at rows.now i))) }
+fn name_alters(table: &LentTable, marks: &[u32], i: usize) -> bool
+    requires known { Known table.now.rules.now marks.now table.now.rows.now table.now.text.now }
+    requires i_in_bounds { i < length table.now.rows.now / row_width }
+    requires i_value { kind_at table.now.rows.now i ≡ k_ident }
+    ensures { (t : Table Bytes) → Sure t table.now.rules.now table.now.text.now marks.now → result ≡ changes t (tree.lit tree.Ident (bytes_at table.now.text.now (x_at table.now.rows.now i, y_at table.now.rows.now i))) }
 {
-    let x = rows::x_at(rows, i);
-    let n = rows::y_at(rows, i);
-    through(rules, marks, text, x, n)
+    let x = rows::x_at(table.rows, i);
+    let n = rows::y_at(table.rows, i);
+    through(table, marks, x, n)
 }
 
 // Whether restoring the subtree of row `root` can alter it: some row is a Push or a name through which the stack can change.
-fn alters(rules: &[u32], marks: &[u32], rows: &[u32], text: &[u8], root: usize) -> bool
-    requires known { Known rules.now marks.now rows.now text.now }
-    requires stands { Stands rows.now root }
-    ensures { result ≡ false → (t : Table Bytes) (r : Expr Span) → Sure t rules.now text.now marks.now → At rows.now root r → steps.restore t (resolve text.now r) ≡ resolve text.now r }
+fn alters(table: &LentTable, marks: &[u32], root: usize) -> bool
+    requires known { Known table.now.rules.now marks.now table.now.rows.now table.now.text.now }
+    requires stands { Stands table.now.rows.now root }
+    ensures { result ≡ false → (t : Table Bytes) (r : Expr Span) → Sure t table.now.rules.now table.now.text.now marks.now → At table.now.rows.now root r → steps.restore t (resolve table.now.text.now r) ≡ resolve table.now.text.now r }
 {
-    for i in root + 1 - rows::size_at(rows, root)..root + 1 {
-        let kind = rows::kind_at(rows, i);
-        if kind == PUSH || kind == IDENT && name_alters(rules, marks, rows, text, i) {
+    for i in root + 1 - rows::size_at(table.rows, root)..root + 1 {
+        let kind = rows::kind_at(table.rows, i);
+        if kind == PUSH || kind == IDENT && name_alters(table, marks, i) {
             return true;
         }
     }
@@ -604,43 +575,41 @@ fn settled(rules: &[u32], marks: &[u32], i: usize, root: usize) -> Option<bool>
 }
 
 // Whether the marks or the rows show that restoring the subtree of row `root` leaves it as it is.
-fn stays(rules: &[u32], marks: &[u32], rows: &[u32], text: &[u8], i: usize, root: usize) -> bool
-    requires marked { Marked rules.now rows.now text.now marks.now }
-    requires settles { Settles rules.now rows.now text.now marks.now }
-    requires stands { Stands rows.now root }
-    ensures { result ≡ true → (t : Table Span) (r : Expr Span) → Lent t rules.now rows.now → At rows.now root r → steps.restore (resolve_table text.now t) (resolve text.now r) ≡ resolve text.now r }
+fn stays(table: &LentTable, marks: &[u32], i: usize, root: usize) -> bool
+    requires marked { Marked table.now.rules.now table.now.rows.now table.now.text.now marks.now }
+    requires settles { Settles table.now.rules.now table.now.rows.now table.now.text.now marks.now }
+    requires stands { Stands table.now.rows.now root }
+    ensures { result ≡ true → (t : Table Span) (r : Expr Span) → Lent t table.now.rules.now table.now.rows.now → At table.now.rows.now root r → steps.restore (resolve_table table.now.text.now t) (resolve table.now.text.now r) ≡ resolve table.now.text.now r }
 {
     // the names of a rule that is settled need no look
-    match settled(rules, marks, i, root) {
+    match settled(table.rules, marks, i, root) {
         Some(true) => false,
         // unless a RestoreOnErr hides a change
-        Some(false) if unset(rows, root) => true,
-        _ => !alters(rules, marks, rows, text, root),
+        Some(false) if unset(table.rows, root) => true,
+        _ => !alters(table, marks, root),
     }
 }
 
 // Step 7 on the subtree of row `root`, packed at p: fastest where it is rule i's. The table is the one that is lent, and its rules are settled.
 pub fn restore(
-    rules: &[u32],
+    table: &LentTable,
     marks: &[u32],
-    rows: &[u32],
-    text: &[u8],
     i: usize,
     root: usize,
     out: &mut [u32],
     lits: &mut [u8],
     p: Place,
 ) -> Option<Place>
-    requires marked { Marked rules.now rows.now text.now marks.now }
-    requires settles { Settles rules.now rows.now text.now marks.now }
-    requires stands { Stands rows.now root }
+    requires marked { Marked table.now.rules.now table.now.rows.now table.now.text.now marks.now }
+    requires settles { Settles table.now.rules.now table.now.rows.now table.now.text.now marks.now }
+    requires stands { Stands table.now.rows.now root }
     requires room { Room p out.old lits.old }
-    ensures { (t : Table Span) (r : Expr Span) → Lent t rules.now rows.now → At rows.now root r → Answer result p (steps.restore (resolve_table text.now t) (resolve text.now r)) out.old out.new lits.old lits.new }
+    ensures { (t : Table Span) (r : Expr Span) → Lent t table.now.rules.now table.now.rows.now → At table.now.rows.now root r → Answer result p (steps.restore (resolve_table table.now.text.now t) (resolve table.now.text.now r)) out.old out.new lits.old lits.new }
 {
     // nearly always: nothing can change the stack
-    if stays(rules, marks, rows, text, i, root) {
-        return writing::copy(rows, text, root, out, lits, p);
+    if stays(table, marks, i, root) {
+        return writing::copy(table, root, out, lits, p);
     }
-    let (q, _) = put(rules, marks, rows, text, root, false, out, lits, p)?;
+    let (q, _) = put(table, marks, root, false, out, lits, p)?;
     Some(q)
 }

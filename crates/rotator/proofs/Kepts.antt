@@ -4,12 +4,16 @@ use mathlib.Core.Path.{◌≡◌, refl, sym, ap, subst, ◌∙◌}
 use mathlib.Core.List.{List, [], ◌∷◌, ◌++◌, append_assoc, append-nil}
 use Prim.Native.Nat.{ℕ, ◌+◌, ◌-◌, ◌*◌, ◌/◌, ◌≤◌}
 use native.Mathlib.Omega.{arith}
+use Rattle.std.specs.Option.{option_eq}
+use Rattle.std.proofs.lemmas.Option.{none-some}
+use lib.Dec.{eqb}
+use mathlib.Core.Bool.{true, false}
 use lib.ListN.{length, take, length-append}
 use lib.Seq.{length-take-le}
 use Rattle.grammar.specs.Numbers.{row_width}
 use Rattle.grammar.specs.Basic.{Bytes}
-use borrow.Author.Tests.{eq-eqb, ne_eqb}
-use Rattle.grammar.specs.Tree.{E, Expr, Bin, Seq, Choice, lit, fixed, skip, un, bin, bin_kind, size}
+use borrow.Author.Tests.{eq-eqb, ne_eqb, eqb-true, eqb-false}
+use Rattle.grammar.specs.Tree.{E, Expr, Bin, lit, fixed, skip, un, bin, bin_kind, size}
 use Rattle.grammar.specs.Rows.{Span, flat}
 use Rattle.grammar.specs.Text.{resolve, text_of, packed}
 use Rattle.grammar.specs.Steps.{rotate}
@@ -113,7 +117,7 @@ rotate_leaf t (skip ss) h = rotate_skip _
 rotate_leaf t (un u e) h = absurd h
 rotate_leaf t (bin b l r) h = absurd h
 
-by_alone : (t : Bytes) (kind : ℕ) (r : Expr Span) → (shape_in r ≡ Two → ⊥) → rotate (resolve t r) ∷ [] ≡ members_of kind (resolve t r)
+by_alone : (t : Bytes) (kind : Option ℕ) (r : Expr Span) → (shape_in r ≡ Two → ⊥) → rotate (resolve t r) ∷ [] ≡ members_of kind (resolve t r)
 by_alone t kind (lit k s) h = sym (by_other kind _ (λ b e. refl))
 by_alone t kind (fixed f) h = sym (by_other kind _ (λ b e. refl))
 by_alone t kind (skip ss) h = sym (by_other kind _ (λ b e. refl))
@@ -128,14 +132,14 @@ not_two (un u r) h e = let z : ◌≡◌ {A = ℕ} 0 1 = cc in omega arith
 not_two (bin b l r) h e = h e
 
 -- a run over a leaf: the tree alone, as it was
-pub leaf_all : (t : Bytes) (kind : ℕ) (r : Expr Span) → (shape_in (low r) ≡ Two → ⊥) → (a : Option Place) (p : Place) (o o' u u' : List ℕ) → KeptAnswer a p (resolve t r) o o' u u' → AllAnswer a p (members_of kind (resolve t r)) o o' u u'
+pub leaf_all : (t : Bytes) (kind : Option ℕ) (r : Expr Span) → (shape_in (low r) ≡ Two → ⊥) → (a : Option Place) (p : Place) (o o' u u' : List ℕ) → KeptAnswer a p (resolve t r) o o' u u' → AllAnswer a p (members_of kind (resolve t r)) o o' u u'
 leaf_all t kind r h a p o o' u u' c =
     all_same a p o o' u u' (by_alone t kind r (not_two r h))
     (all_one a p (rotate (resolve t r)) o o' u u' (subst (λ (z : E). KeptAnswer a p z o o' u u') (sym (leaf_run rotate rotate_un t (rotate_leaf t) r h)) c))
 
 -- ---- a node with two children
 
-module _ (t : Bytes) {w : List ℕ} {i k x y n : ℕ} {r : Expr Span} (v : TwoView w i k x y n r) {p q : Place} {o o₁ u u₁ : List ℕ} (c : KeptAll q p (members_of k (resolve t v.left)) o o₁ u u₁)
+module _ (t : Bytes) {w : List ℕ} {i k x y n : ℕ} {r : Expr Span} (v : TwoView w i k x y n r) {p q : Place} {o o₁ u u₁ : List ℕ} (c : KeptAll q p (members_of (Some k) (resolve t v.left)) o o₁ u u₁)
     (h : Fits p (resolve t r) o u) where
   node_fits : Fits p (bin v.op (resolve t v.left) (resolve t v.right)) o u
   node_fits = rw v.is at h
@@ -150,7 +154,7 @@ module _ (t : Bytes) {w : List ℕ} {i k x y n : ℕ} {r : Expr Span} (v : TwoVi
     text = omega (arith, first_all.text, node_fits.text, ap length (members_text v.op l), length-append (text_of l) (text_of (resolve t v.right)));
   }
 
-  module _ {s : Place} {o₂ u₂ : List ℕ} (d : KeptAll s q (members_of k (resolve t v.right)) o₁ o₂ u₁ u₂) where
+  module _ {s : Place} {o₂ u₂ : List ℕ} (d : KeptAll s q (members_of (Some k) (resolve t v.right)) o₁ o₂ u₁ u₂) where
     abbrev node : E
     node = bin v.op (resolve t v.left) (resolve t v.right)
 
@@ -159,8 +163,8 @@ module _ (t : Bytes) {w : List ℕ} {i k x y n : ℕ} {r : Expr Span} (v : TwoVi
         (all_append first_all (subst (λ (z : List E). KeptAll s q z o₁ o₂ u₁ u₂) (by_bin k v.op (resolve t v.right) v.kind) d))
 
     -- in a chain of its kind: the members of both sides
-    pub same_all : (kind : ℕ) → k ≡ kind → AllAnswer (Some s) p (members_of kind (resolve t r)) o o₂ u u₂
-    same_all kind e = subst (λ (z : E). AllAnswer (Some s) p (members_of kind z) o o₂ u u₂) (sym (ap (resolve t) v.is)) (all_same (Some s) p o o₂ u u₂ (sym (by_bin kind v.op node (sym e ∙ v.kind))) both_all)
+    pub same_all : (kind : Option ℕ) → kind ≡ Some k → AllAnswer (Some s) p (members_of kind (resolve t r)) o o₂ u u₂
+    same_all kind e = subst (λ (z : E). AllAnswer (Some s) p (members_of kind z) o o₂ u u₂) (sym (ap (resolve t) v.is)) (all_same (Some s) p o o₂ u u₂ (sym (ap (λ (z : Option ℕ). members_of z node) e ∙ by_bin k v.op node v.kind)) both_all)
 
     abbrev ends : Snoc (members v.op node)
     ends = as_snoc (members v.op node) (members_some v.op node)
@@ -199,55 +203,55 @@ module _ (t : Bytes) {w : List ℕ} {i k x y n : ℕ} {r : Expr Span} (v : TwoVi
 
 -- ---- by the run over the node
 
-module _ (base root kind : ℕ) where
+-- what the test of a chain's kind tells
+pub of_kind : (c : Option ℕ) (k : ℕ) → option_eq eqb c (Some k) ≡ true → c ≡ Some k
+of_kind None k h = cc
+of_kind (Some j) k h = ap Some (eqb-true j k h)
+
+pub not_kind : (c : Option ℕ) (k : ℕ) → option_eq eqb c (Some k) ≡ false → c ≡ Some k → ⊥
+not_kind c k h e = eqb-false k k (subst (λ (z : Option ℕ). option_eq eqb z (Some k) ≡ false) e h) refl
+
+module _ (base root : ℕ) (kind : Option ℕ) where
   pub own_chain : base ≡ root → chain_at kind base root ≡ kind
   unfolding chain_at
   own_chain e = rw (eq-eqb base root e)
 
-  pub no_chain : (base ≡ root → ⊥) → chain_at kind base root ≡ 0
+  pub no_chain : (base ≡ root → ⊥) → chain_at kind base root ≡ None
   unfolding chain_at
   no_chain h = rw (ne_eqb base root h)
 
   -- in a chain of its kind there is no run over it
-  pub run_none : {k : ℕ} (r : Expr Span) → base + length (ups r) ≡ root → k ≡ (head_of (low r)).0 → shape_in (low r) ≡ Two → k ≡ chain_at kind base root → low r ≡ r
+  pub run_none : {k : ℕ} (r : Expr Span) → base + length (ups r) ≡ root → k ≡ (head_of (low r)).0 → shape_in (low r) ≡ Two → chain_at kind base root ≡ Some k → low r ≡ r
   run_none (lit j s) e h l d = refl
   run_none (fixed f) e h l d = refl
   run_none (skip ss) e h l d = refl
   run_none (bin b x y) e h l d = refl
-  run_none (un u r) e h l d = absurd (zero_two (low r) l (sym h ∙ d ∙ no_chain (omega arith)))
-    where
-      zero_two : (r : Expr Span) → shape_in r ≡ Two → (head_of r).0 ≡ 0 → ⊥
-      zero_two (lit j s) l z = let y : ◌≡◌ {A = ℕ} 0 1 = cc in omega arith
-      zero_two (fixed f) l z = let y : ◌≡◌ {A = ℕ} 0 1 = cc in omega arith
-      zero_two (skip ss) l z = let y : ◌≡◌ {A = ℕ} 0 1 = cc in omega arith
-      zero_two (un u r) l z = let y : ◌≡◌ {A = ℕ} 0 1 = cc in omega arith
-      zero_two (bin Seq x y) l z = omega arith
-      zero_two (bin Choice x y) l z = omega arith
+  run_none (un u r) e h l d = absurd (none-some _ (sym (no_chain (omega arith)) ∙ d))
 
-  pub run_same : {k : ℕ} (r : Expr Span) → base + length (ups r) ≡ root → low r ≡ r → k ≡ chain_at kind base root → k ≡ kind
-  run_same r e l d = d ∙ own_chain (omega (arith, ap size l, low_size r))
+  pub run_same : {k : ℕ} (r : Expr Span) → base + length (ups r) ≡ root → low r ≡ r → chain_at kind base root ≡ Some k → kind ≡ Some k
+  run_same r e l d = sym (own_chain (omega (arith, ap size l, low_size r))) ∙ d
 
   -- in no chain of its kind: the tree alone
-  alone : {k : ℕ} (t : Bytes) (r : Expr Span) → base + length (ups r) ≡ root → k ≡ (head_of (low r)).0 → (k ≡ chain_at kind base root → ⊥) → rotate (resolve t r) ∷ [] ≡ members_of kind (resolve t r)
+  alone : {k : ℕ} (t : Bytes) (r : Expr Span) → base + length (ups r) ≡ root → k ≡ (head_of (low r)).0 → (chain_at kind base root ≡ Some k → ⊥) → rotate (resolve t r) ∷ [] ≡ members_of kind (resolve t r)
   alone t (lit j s) e h n = by_alone t kind (lit j s) (λ d. let y : ◌≡◌ {A = ℕ} 0 1 = cc in omega arith)
   alone t (fixed f) e h n = by_alone t kind (fixed f) (λ d. let y : ◌≡◌ {A = ℕ} 0 1 = cc in omega arith)
   alone t (skip ss) e h n = by_alone t kind (skip ss) (λ d. let y : ◌≡◌ {A = ℕ} 0 1 = cc in omega arith)
   alone t (un u r) e h n = by_alone t kind (un u r) (λ d. let y : ◌≡◌ {A = ℕ} 0 1 = cc in omega arith)
-  alone t (bin b x y) e h n = sym (by_other kind _ (λ c d. members_two b c _ _ (λ f. n (h ∙ sym (ap bin_kind f) ∙ sym d ∙ sym (own_chain (omega arith))))))
+  alone t (bin b x y) e h n = sym (by_other kind _ (λ c d. members_two b c _ _ (λ f. n (own_chain (omega arith) ∙ d ∙ ap Some (ap bin_kind f ∙ sym h)))))
 
-  pub run_rotated : {k : ℕ} (t : Bytes) (r : Expr Span) → base + length (ups r) ≡ root → k ≡ (head_of (low r)).0 → (k ≡ chain_at kind base root → ⊥) → (a : Option Place) (p : Place) (o o' u u' : List ℕ)
+  pub run_rotated : {k : ℕ} (t : Bytes) (r : Expr Span) → base + length (ups r) ≡ root → k ≡ (head_of (low r)).0 → (chain_at kind base root ≡ Some k → ⊥) → (a : Option Place) (p : Place) (o o' u u' : List ℕ)
       → KeptAnswer a p (rotate (resolve t r)) o o' u u' → AllAnswer a p (members_of kind (resolve t r)) o o' u u'
   run_rotated t r e h n a p o o' u u' c = all_same a p o o' u u' (alone t r e h n) (all_one a p (rotate (resolve t r)) o o' u u' c)
 
 -- in a chain of its kind: the members of both sides
-pub chain_all : (t : Bytes) {w : List ℕ} {i k x y n : ℕ} (r : Expr Span) (v : TwoView w i k x y n (low r)) {p q : Place} {o o₁ u u₁ : List ℕ} → KeptAll q p (members_of k (resolve t v.left)) o o₁ u u₁
-    → Fits p (resolve t (low r)) o u → {s : Place} {o₂ u₂ : List ℕ} → KeptAll s q (members_of k (resolve t v.right)) o₁ o₂ u₁ u₂ → (base root kind : ℕ) → base + length (ups r) ≡ root
-    → k ≡ chain_at kind base root → AllAnswer (Some s) p (members_of kind (resolve t r)) o o₂ u u₂
+pub chain_all : (t : Bytes) {w : List ℕ} {i k x y n : ℕ} (r : Expr Span) (v : TwoView w i k x y n (low r)) {p q : Place} {o o₁ u u₁ : List ℕ} → KeptAll q p (members_of (Some k) (resolve t v.left)) o o₁ u u₁
+    → Fits p (resolve t (low r)) o u → {s : Place} {o₂ u₂ : List ℕ} → KeptAll s q (members_of (Some k) (resolve t v.right)) o₁ o₂ u₁ u₂ → (base root : ℕ) (kind : Option ℕ) → base + length (ups r) ≡ root
+    → chain_at kind base root ≡ Some k → AllAnswer (Some s) p (members_of kind (resolve t r)) o o₂ u u₂
 chain_all t r v {p} {o} {u} c h {s} {o₂} {u₂} d base root kind e z =
     let l : low r ≡ r = run_none base root kind r e (v.kind ∙ sym (ap (λ (z : Expr Span). (head_of z).0) v.is)) (ap shape_in v.is) z in
     subst (λ (z : Expr Span). AllAnswer (Some s) p (members_of kind (resolve t z)) o o₂ u u₂) l (same_all t v c h d kind (run_same base root kind r e l z))
 
 -- no chain's kind
-pub alone_kept : (a : Option Place) (p : Place) (e : E) (o o' u u' : List ℕ) → AllAnswer a p (members_of 0 e) o o' u u' → KeptAnswer a p (rotate e) o o' u u'
+pub alone_kept : (a : Option Place) (p : Place) (e : E) (o o' u u' : List ℕ) → AllAnswer a p (members_of None e) o o' u u' → KeptAnswer a p (rotate e) o o' u u'
 unfolding members_of
 alone_kept a p e o o' u u' c = one_all a p (rotate e) o o' u u' c

@@ -1,4 +1,5 @@
 -- Rotation by the members of a chain: the law that ties it to the definition, and what it keeps. Assumes nothing.
+use Rattle.std.specs.Prelude.{None, Option, Some}
 use mathlib.Core.Path.{◌≡◌, refl, sym, ap, ◌∙◌}
 use mathlib.Core.List.{List, [], ◌∷◌, ◌++◌, append-nil}
 use mathlib.Core.Bool.{Bool, true, false, cond}
@@ -97,18 +98,19 @@ pub rotate_all : (b : Bin) (e : E) (z : Snoc (members b e)) → rotate e ≡ cha
 rotate_all b e z = rotate_nest b e ∙ ap (nest_by b) z.is ∙ nest_after b z.init (z.last ∷ []) (omega arith)
 
 -- the members by a kind word
-pub by_bin : (k : ℕ) (b : Bin) (e : E) → k ≡ bin_kind b → members_of k e ≡ members b e
+pub by_bin : (k : ℕ) (b : Bin) (e : E) → k ≡ bin_kind b → members_of (Some k) e ≡ members b e
 unfolding members_of
 by_bin k Seq e h = rw h
 by_bin k Choice e h = rw h
 
-pub by_other : (k : ℕ) (e : E) → ((b : Bin) → k ≡ bin_kind b → members b e ≡ rotate e ∷ []) → members_of k e ≡ rotate e ∷ []
+pub by_other : (c : Option ℕ) (e : E) → ((b : Bin) → c ≡ Some (bin_kind b) → members b e ≡ rotate e ∷ []) → members_of c e ≡ rotate e ∷ []
 unfolding members_of
-by_other k e h = go (eqb k 8) (eqb k 9) refl refl
+by_other None e h = refl
+by_other (Some k) e h = go (eqb k 8) (eqb k 9) refl refl
   where
     go : (v w : Bool) → eqb k 8 ≡ v → eqb k 9 ≡ w → cond v (members Seq e) (cond w (members Choice e) (rotate e ∷ [])) ≡ rotate e ∷ []
-    go true w p q = h Seq (eqb-true k 8 p)
-    go false true p q = h Choice (eqb-true k 9 q)
+    go true w p q = h Seq (ap Some (eqb-true k 8 p))
+    go false true p q = h Choice (ap Some (eqb-true k 9 q))
     go false false p q = refl
 
 -- rows and text are kept: of a tree as a whole, and of the members of any chain, whose closing rows are one less than they are

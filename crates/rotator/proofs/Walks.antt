@@ -31,29 +31,29 @@ rotate_step = record { over = rotate_un; rows = λ e. omega (arith, rotate_size 
 
 -- the members of both sides of a node of kind k, one after the other
 pub record Both (t : Bytes) (k : ℕ) (q p s : Place) (x y : Expr Span) (o o₁ o₂ b b₁ b₂ : List ℕ) : Type 0 where
-  pub first : KeptAll q p (members_of k (resolve t x)) o o₁ b b₁
-  pub second : KeptAll s q (members_of k (resolve t y)) o₁ o₂ b₁ b₂
+  pub first : KeptAll q p (members_of (Some k) (resolve t x)) o o₁ b b₁
+  pub second : KeptAll s q (members_of (Some k) (resolve t y)) o₁ o₂ b₁ b₂
 
 module _ {w : List ℕ} {t : Bytes} {i base l : ℕ} {p : Place} {o b : List ℕ} (f : Fork w t i base l p o b) {k : ℕ} (n : k ≡ kind_at w base) where
   pub is_bin : IsBin k
   is_bin = let h = own f in record { op = h.view.op; is = n ∙ h.view.kind }
 
-  module _ {a₁ : Option Place} {q : Place} {o₁ b₁ : List ℕ} (e₁ : a₁ ≡ Some q) (c : (r : Expr Span) → At w l r → AllAnswer a₁ p (members_of k (resolve t r)) o o₁ b b₁) where
-    first_of : {r : Expr Span} (h : Forked w t i base l p o b r) → KeptAll q p (members_of (kind_at w base) (resolve t h.view.left)) o o₁ b b₁
-    first_of h = subst (λ (z : ℕ). KeptAll q p (members_of z (resolve t h.view.left)) o o₁ b b₁) n (all_done _ _ _ _ _ _ e₁ (c h.view.left h.at_left))
+  module _ {a₁ : Option Place} {q : Place} {o₁ b₁ : List ℕ} (e₁ : a₁ ≡ Some q) (c : (r : Expr Span) → At w l r → AllAnswer a₁ p (members_of (Some k) (resolve t r)) o o₁ b b₁) where
+    first_of : {r : Expr Span} (h : Forked w t i base l p o b r) → KeptAll q p (members_of (Some (kind_at w base)) (resolve t h.view.left)) o o₁ b b₁
+    first_of h = subst (λ (z : ℕ). KeptAll q p (members_of (Some z) (resolve t h.view.left)) o o₁ b b₁) n (all_done _ _ _ _ _ _ e₁ (c h.view.left h.at_left))
 
     pub right_ready : length o₁ ≡ length o → length b₁ ≡ length b → Ready w t (base - 1) q o₁ b₁
     right_ready lo lb = let h = own f in record { tree = h.view.right; at = h.view.at_right; fits = second_fits t h.view (first_of h) h.fits lo lb }
 
-    pub both_of : {a₂ : Option Place} {s : Place} {o₂ b₂ : List ℕ} → a₂ ≡ Some s → ((r : Expr Span) → At w (base - 1) r → AllAnswer a₂ q (members_of k (resolve t r)) o₁ o₂ b₁ b₂)
+    pub both_of : {a₂ : Option Place} {s : Place} {o₂ b₂ : List ℕ} → a₂ ≡ Some s → ((r : Expr Span) → At w (base - 1) r → AllAnswer a₂ q (members_of (Some k) (resolve t r)) o₁ o₂ b₁ b₂)
         → (r : Expr Span) (h : Forked w t i base l p o b r) → Both t (kind_at w base) q p s h.view.left h.view.right o o₁ o₂ b b₁ b₂
     both_of {s} {o₂} {b₂} e₂ d r h = record {
       first = first_of h;
-      second = subst (λ (z : ℕ). KeptAll s q (members_of z (resolve t h.view.right)) o₁ o₂ b₁ b₂) n (all_done _ _ _ _ _ _ e₂ (d h.view.right h.view.at_right));
+      second = subst (λ (z : ℕ). KeptAll s q (members_of (Some z) (resolve t h.view.right)) o₁ o₂ b₁ b₂) n (all_done _ _ _ _ _ _ e₂ (d h.view.right h.view.at_right));
     }
 
   -- the rotated tree is in no chain of its kind
-  pub alone : (kind : ℕ) → (k ≡ chain_at kind base i → ⊥) → (a : Option Place) (o₂ b₂ : List ℕ) → ((r : Expr Span) → At w i r → KeptAnswer a p (rotate (resolve t r)) o o₂ b b₂)
+  pub alone : (kind : Option ℕ) → (chain_at kind base i ≡ Some k → ⊥) → (a : Option Place) (o₂ b₂ : List ℕ) → ((r : Expr Span) → At w i r → KeptAnswer a p (rotate (resolve t r)) o o₂ b b₂)
       → (r : Expr Span) → At w i r → AllAnswer a p (members_of kind (resolve t r)) o o₂ b b₂
   alone kind z a o₂ b₂ c r x =
       let h = forked f r x in
@@ -62,8 +62,8 @@ module _ {w : List ℕ} {t : Bytes} {i base l : ℕ} {p : Place} {o b : List ℕ
 module _ {w : List ℕ} {t : Bytes} {i base l : ℕ} {p : Place} {o b : List ℕ} (f : Fork w t i base l p o b) {k : ℕ} (n : k ≡ kind_at w base) {q s : Place} {o₁ o₂ b₁ b₂ : List ℕ}
     (g : (r : Expr Span) (h : Forked w t i base l p o b r) → Both t (kind_at w base) q p s h.view.left h.view.right o o₁ o₂ b b₁ b₂) where
   -- where the node is in a chain of its kind
-  pub in_chain : (kind : ℕ) → k ≡ chain_at kind base i → (r : Expr Span) → At w i r → AllAnswer (Some s) p (members_of kind (resolve t r)) o o₂ b b₂
-  in_chain kind z r a = let h = forked f r a in let v = g r h in chain_all t r h.view v.first h.fits v.second base i kind h.run (sym n ∙ z)
+  pub in_chain : (kind : Option ℕ) → chain_at kind base i ≡ Some k → (r : Expr Span) → At w i r → AllAnswer (Some s) p (members_of kind (resolve t r)) o o₂ b b₂
+  in_chain kind z r a = let h = forked f r a in let v = g r h in chain_all t r h.view v.first h.fits v.second base i kind h.run (z ∙ ap Some n)
 
   -- elsewhere the rows that are missing close the chain
   module _ {m : ℕ} (z : m ≡ size_at w base) where

@@ -17,13 +17,14 @@ members Seq (bin Choice l r) = rotate (bin Choice l r) ∷ []
 members Choice (bin Seq l r) = rotate (bin Seq l r) ∷ []
 members Choice (bin Choice l r) = members Choice l ++ members Choice r
 
--- the same by a node's kind word: 8 is Seq, 9 is Choice, and no chain has another
-unfoldable pub members_of : ℕ → E → List E
-members_of k e = cond (eqb k k_seq) (members Seq e) (cond (eqb k k_choice) (members Choice e) (rotate e ∷ []))
+-- the same by a node's kind word, where there is a chain: 8 is Seq, 9 is Choice, and no chain has another
+unfoldable pub members_of : Option ℕ → E → List E
+members_of None e = rotate e ∷ []
+members_of (Some k) e = cond (eqb k k_seq) (members Seq e) (cond (eqb k k_choice) (members Choice e) (rotate e ∷ []))
 
 -- the chain's kind word at the row `base` below a run that ends at `root`: a node over others of one child is in no chain
-unfoldable pub chain_at : ℕ → ℕ → ℕ → ℕ
-chain_at k base root = cond (eqb base root) k 0
+unfoldable pub chain_at : Option ℕ → ℕ → ℕ → Option ℕ
+chain_at c base root = cond (eqb base root) c None
 
 -- the packed trees es stand from p to q, after what was there
 pub record KeptAll (q p : Place) (es : List E) (o o' t t' : List ℕ) : Type 0 where

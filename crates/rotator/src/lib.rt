@@ -13,49 +13,47 @@ ghost use Rattle.writing.specs.Writes.{Areas};
 ghost use Rattle.writing.specs.Keeps.{KeptAnswer, Ready};
 ghost use Rattle.rotator.specs.Members.{members_of, chain_at, AllAnswer};
 
+use grammar::LentTable;
 use writing::Place;
 
-// In place of a chain's kind where there is none: no chain is of Str.
-const NO_CHAIN: u32 = 0;
-
-// The kind of the chain that goes on at the row below a run: `kind`, or none (0) where there is a run.
-fn chain_at(kind: u32, base: usize, root: usize) -> u32
+// The kind of the chain that goes on at the row below a run: `kind`, or none where there is a run.
+fn chain_at(kind: Option<u32>, base: usize, root: usize) -> Option<u32>
     ensures { result ≡ chain_at kind base root }
 {
-    if base == root { kind } else { NO_CHAIN }
+    if base == root { kind } else { None }
 }
 
 // Writes the subtree of row `root`, which fits, at p, its literals packed: the rotated tree, or, where the root is a node of the
 // chain of `kind`, its members, each rotated, one after the other.
 fn walk(
-    rows: &[u32],
-    text: &[u8],
-    kind: u32,
+    table: &LentTable,
+    kind: Option<u32>,
     root: usize,
     out: &mut [u32],
     lits: &mut [u8],
     p: Place,
 ) -> Option<Place>
-    requires inside { Inside rows.now (length text.now) }
-    requires ready { Ready rows.now text.now root p out.old lits.old }
+    requires inside { Inside table.now.rows.now (length table.now.text.now) }
+    requires ready { Ready table.now.rows.now table.now.text.now root p out.old lits.old }
     requires areas { Areas out.old lits.old }
-    ensures { (r : Expr Span) → At rows.now root r → AllAnswer result p (members_of kind (resolve text.now r)) out.old out.new lits.old lits.new }
+    ensures { (r : Expr Span) → At table.now.rows.now root r → AllAnswer result p (members_of kind (resolve table.now.text.now r)) out.old out.new lits.old lits.new }
 {
-    let base = chains::below(rows, root);
-    if !chains::forks(rows, base) {
-        return writing::keep(rows, text, root, out, lits, p);
+    let base = chains::below(table.rows, root);
+    if !chains::forks(table.rows, base) {
+        return writing::keep(table, root, out, lits, p);
     }
-    let k = rows::kind_at(rows, base);
-    let left = rows::left_of(rows, base);
-    let q = walk(rows, text, k, left, out, lits, p).unwrap();
-    let s = walk(rows, text, k, base - 1, out, lits, q).unwrap();
-    if k == chain_at(kind, base, root) {
+    let k = rows::kind_at(table.rows, base);
+    let in_chain = chain_at(kind, base, root) == Some(k);
+    let left = rows::left_of(table.rows, base);
+    let q = walk(table, Some(k), left, out, lits, p).unwrap();
+    let s = walk(table, Some(k), base - 1, out, lits, q).unwrap();
+    if in_chain {
         return Some(s);
     }
     // there are as many rows as before: those that are missing close the chain
-    let end = p.rows + rows::size_at(rows, base);
+    let end = p.rows + rows::size_at(table.rows, base);
     let e = chains::close(out, s, k, end - s.rows).unwrap();
-    chains::raise(rows, base, root, out, p, e)
+    chains::raise(table.rows, base, root, out, p, e)
 }
 
 // Whether the left side of row i, a Seq or a Choice, is one as well.
@@ -69,17 +67,16 @@ pub fn fires(rows: &[u32], i: usize) -> bool
 
 // Writes the rotated subtree of row `root`, which fits, at p, its literals packed: it is in no chain.
 pub fn rotate(
-    rows: &[u32],
-    text: &[u8],
+    table: &LentTable,
     root: usize,
     out: &mut [u32],
     lits: &mut [u8],
     p: Place,
 ) -> Option<Place>
-    requires inside { Inside rows.now (length text.now) }
-    requires ready { Ready rows.now text.now root p out.old lits.old }
+    requires inside { Inside table.now.rows.now (length table.now.text.now) }
+    requires ready { Ready table.now.rows.now table.now.text.now root p out.old lits.old }
     requires areas { Areas out.old lits.old }
-    ensures { (r : Expr Span) → At rows.now root r → KeptAnswer result p (rotate (resolve text.now r)) out.old out.new lits.old lits.new }
+    ensures { (r : Expr Span) → At table.now.rows.now root r → KeptAnswer result p (rotate (resolve table.now.text.now r)) out.old out.new lits.old lits.new }
 {
-    walk(rows, text, NO_CHAIN, root, out, lits, p)
+    walk(table, None, root, out, lits, p)
 }

@@ -9,7 +9,8 @@ ghost use Rattle.grammar.specs.Text.{bytes_at, resolve};
 ghost use Rattle.rows.specs.Rows.{kind_at, x_at, y_at, size_at, row_at, shape_of, cell_at, Tells, block, Unlike, LitInside, At, Stands, StandsIn};
 
 use grammar::{
-    CHOICE, IDENT, INSENS, PEEK_SLICE, PEEK_SLICE_END, RANGE, ROW_WIDTH, SEQ, SIZE, SKIP, STR, X, Y,
+    CHOICE, IDENT, INSENS, LentTable, PEEK_SLICE, PEEK_SLICE_END, RANGE, ROW_WIDTH, SEQ, SIZE,
+    SKIP, STR, X, Y,
 };
 
 // A row: its kind, its two numbers, and how many rows its subtree has.
@@ -29,13 +30,6 @@ pub enum Shape {
     One,
     Two,
     Skips,
-}
-
-// A word as an index.
-pub fn wide(x: u32) -> usize
-    ensures { result ≡ x }
-{
-    x as usize
 }
 
 // Row i, if it is there.
@@ -178,23 +172,16 @@ pub fn same_bytes(text1: &[u8], x: usize, text2: &[u8], y: usize, n: usize) -> b
 }
 
 // Whether row i of one table and row j of another are the same up to the offsets of their literals.
-pub fn same_row(
-    rows1: &[u32],
-    text1: &[u8],
-    i: usize,
-    rows2: &[u32],
-    text2: &[u8],
-    j: usize,
-) -> bool
-    requires i_in_bounds { (i < length rows1.now / row_width) × (j < length rows2.now / row_width) }
-    requires lit_inside { LitInside rows1.now (length text1.now) i }
-    requires lit_inside_2 { LitInside rows2.now (length text2.now) j }
-    ensures { Tells result (cell_at text1.now rows1.now i ≡ cell_at text2.now rows2.now j) }
+pub fn same_row(one: &LentTable, i: usize, other: &LentTable, j: usize) -> bool
+    requires i_in_bounds { (i < length one.now.rows.now / row_width) × (j < length other.now.rows.now / row_width) }
+    requires lit_inside { LitInside one.now.rows.now (length one.now.text.now) i }
+    requires lit_inside_2 { LitInside other.now.rows.now (length other.now.text.now) j }
+    ensures { Tells result (cell_at one.now.text.now one.now.rows.now i ≡ cell_at other.now.text.now other.now.rows.now j) }
 {
-    let Some(first) = row_at(rows1, i) else {
+    let Some(first) = row_at(one.rows, i) else {
         return false;
     };
-    let Some(second) = row_at(rows2, j) else {
+    let Some(second) = row_at(other.rows, j) else {
         return false;
     };
     if first.kind != second.kind {
@@ -206,9 +193,9 @@ pub fn same_row(
     }
     if let Shape::Lit = shape_of(first.kind) {
         same_bytes(
-            text1,
+            one.text,
             first.x as usize,
-            text2,
+            other.text,
             second.x as usize,
             first.y as usize,
         )
@@ -218,22 +205,14 @@ pub fn same_row(
 }
 
 // Whether n rows of one table from i and of another from j are the same, one by one, up to offsets.
-pub fn same_rows(
-    rows1: &[u32],
-    text1: &[u8],
-    i: usize,
-    rows2: &[u32],
-    text2: &[u8],
-    j: usize,
-    n: usize,
-) -> bool
-    requires n_in_bounds { (i + n ≤ length rows1.now / row_width) × (j + n ≤ length rows2.now / row_width) }
-    requires by_index { (k : ℕ) → k < n → LitInside rows1.now (length text1.now) (i + k) }
-    requires by_index_2 { (k : ℕ) → k < n → LitInside rows2.now (length text2.now) (j + k) }
-    ensures { Tells result ((k : ℕ) → k < n → cell_at text1.now rows1.now (i + k) ≡ cell_at text2.now rows2.now (j + k)) }
+pub fn same_rows(one: &LentTable, i: usize, other: &LentTable, j: usize, n: usize) -> bool
+    requires n_in_bounds { (i + n ≤ length one.now.rows.now / row_width) × (j + n ≤ length other.now.rows.now / row_width) }
+    requires by_index { (k : ℕ) → k < n → LitInside one.now.rows.now (length one.now.text.now) (i + k) }
+    requires by_index_2 { (k : ℕ) → k < n → LitInside other.now.rows.now (length other.now.text.now) (j + k) }
+    ensures { Tells result ((k : ℕ) → k < n → cell_at one.now.text.now one.now.rows.now (i + k) ≡ cell_at other.now.text.now other.now.rows.now (j + k)) }
 {
     for k in 0..n {
-        if !same_row(rows1, text1, i + k, rows2, text2, j + k) {
+        if !same_row(one, i + k, other, j + k) {
             return false;
         }
     }
@@ -241,27 +220,20 @@ pub fn same_rows(
 }
 
 // Whether the subtrees with their roots at row i of one table and row j of another are equal; offsets don't count.
-pub fn same_tree(
-    rows1: &[u32],
-    text1: &[u8],
-    i: usize,
-    rows2: &[u32],
-    text2: &[u8],
-    j: usize,
-) -> bool
-    requires stands_in { StandsIn rows1.now i (length text1.now) }
-    requires stands_in_2 { StandsIn rows2.now j (length text2.now) }
-    ensures { (r s : Expr Span) → At rows1.now i r → At rows2.now j s → Tells result (resolve text1.now r ≡ resolve text2.now s) }
+pub fn same_tree(one: &LentTable, i: usize, other: &LentTable, j: usize) -> bool
+    requires stands_in { StandsIn one.now.rows.now i (length one.now.text.now) }
+    requires stands_in_2 { StandsIn other.now.rows.now j (length other.now.text.now) }
+    ensures { (r s : Expr Span) → At one.now.rows.now i r → At other.now.rows.now j s → Tells result (resolve one.now.text.now r ≡ resolve other.now.text.now s) }
 {
-    let Some(first) = row_at(rows1, i) else {
+    let Some(first) = row_at(one.rows, i) else {
         return false;
     };
-    let Some(second) = row_at(rows2, j) else {
+    let Some(second) = row_at(other.rows, j) else {
         return false;
     };
     if first.size != second.size {
         return false;
     }
     let rows = first.size as usize;
-    same_rows(rows1, text1, i + 1 - rows, rows2, text2, j + 1 - rows, rows)
+    same_rows(one, i + 1 - rows, other, j + 1 - rows, rows)
 }

@@ -1,8 +1,9 @@
 // What the call changed, rule by rule: the table before and after it, side by side (document 02, No. 1).
 use crate::print;
 use crate::table::Rules;
-use areas::{RULES_AREA, Table};
+use areas::RULES_AREA;
 use comparer::{FULL_LIST, Refused, Side};
+use grammar::LentTable;
 use std::io;
 
 // An entry is a sort, the left rule, the right rule and a row.
@@ -12,7 +13,7 @@ const OTHER_TYPE: u32 = 1;
 
 const OTHER_TREE: u32 = 2;
 
-pub fn changes(rt: &impl Print, left: Table<'_>, right: Table<'_>) -> io::Result<()> {
+pub fn changes(rt: &impl Print, left: LentTable<'_>, right: LentTable<'_>) -> io::Result<()> {
     let mut list = [0; FULL_LIST];
     let Ok(n) = compared(left, right, &mut list) else {
         return println!(rt; "  changes: not compared, a RestoreOnErr is no kind of an input");
@@ -28,24 +29,14 @@ pub fn changes(rt: &impl Print, left: Table<'_>, right: Table<'_>) -> io::Result
 }
 
 // The call, with marks of its own: how many entries it lists.
-fn compared(left: Table<'_>, right: Table<'_>, list: &mut [u32]) -> Result<u32, Refused> {
+fn compared(left: LentTable<'_>, right: LentTable<'_>, list: &mut [u32]) -> Result<u32, Refused> {
     let mut left_marks = [0; RULES_AREA];
     let mut right_marks = [0; RULES_AREA];
-    comparer::compare(
-        left.rules,
-        left.rows,
-        left.text,
-        right.rules,
-        right.rows,
-        right.text,
-        list,
-        &mut left_marks,
-        &mut right_marks,
-    )
+    comparer::compare(&left, &right, list, &mut left_marks, &mut right_marks)
 }
 
 // An entry. Every rule of these tables is found on both sides.
-fn entry(rt: &impl Print, e: Entry, left: Table<'_>, right: Table<'_>) -> io::Result<()> {
+fn entry(rt: &impl Print, e: Entry, left: LentTable<'_>, right: LentTable<'_>) -> io::Result<()> {
     let [sort, left_rule, right_rule, row] = e;
     print!(rt; "  changes: {}", name(left, left_rule))?;
     match sort {
@@ -61,15 +52,15 @@ fn entry(rt: &impl Print, e: Entry, left: Table<'_>, right: Table<'_>) -> io::Re
     }
 }
 
-pub fn name(t: Table<'_>, rule: u32) -> &str {
+pub fn name(t: LentTable<'_>, rule: u32) -> &str {
     Rules::new(t).nth(rule as usize).map_or("", |r| r.name)
 }
 
 // What stands at a row of a rule: a literal's bytes, another row's kind, or nothing, past the rule's last row.
 fn what(
     rt: &impl Print,
-    left: Table<'_>,
-    right: Table<'_>,
+    left: LentTable<'_>,
+    right: LentTable<'_>,
     side: Side,
     rule: u32,
     row: u32,
@@ -90,40 +81,19 @@ fn what(
 
 // The bytes of a literal, where one stands there.
 fn literal<'a>(
-    left: Table<'a>,
-    right: Table<'a>,
+    left: LentTable<'a>,
+    right: LentTable<'a>,
     side: Side,
     rule: u32,
     row: u32,
 ) -> Option<&'a [u8]> {
     let (side, rule, row) = (side as u32, rule as usize, row as usize);
-    comparer::place(
-        left.rules,
-        left.rows,
-        left.text,
-        right.rules,
-        right.rows,
-        right.text,
-        side,
-        rule,
-        row,
-    )
-    .map(|_| {
-        comparer::shown(
-            left.rules,
-            left.rows,
-            left.text,
-            right.rules,
-            right.rows,
-            right.text,
-            side,
-            rule,
-            row,
-        )
+    comparer::place(&left, &right, side, rule, row).map(|_| {
+        comparer::shown(&left, &right, side, rule, row)
     })
 }
 
-fn kind(t: Table<'_>, rule: u32, row: u32) -> &'static str {
+fn kind(t: LentTable<'_>, rule: u32, row: u32) -> &'static str {
     Rules::new(t)
         .nth(rule as usize)
         .and_then(|r| r.rows.get(row as usize))

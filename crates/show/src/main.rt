@@ -8,7 +8,7 @@ mod print;
 mod table;
 mod tables;
 
-use areas::Table;
+use grammar::LentTable;
 use std::io;
 use tables::EXAMPLES;
 
@@ -21,7 +21,7 @@ fn main(rt: HostRuntime) -> io::Result<()> {
     println!(rt; "{INTRODUCTION}")?;
     for e in EXAMPLES.iter() {
         println!(rt; "\n{}", e.title)?;
-        let table = Table {
+        let table = LentTable {
             rules: e.rules.as_flattened(),
             rows: e.rows.as_flattened(),
             text: e.text.as_bytes(),

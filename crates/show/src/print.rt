@@ -1,10 +1,10 @@
 // Tables, reports and refusals for a person to read.
 use crate::table::{Row, Rules, part};
 use crate::{compare, explain};
-use areas::{Areas, Lend, Table};
+use areas::{Areas, Lend};
 use grammar::{
-    IDENT, INSENS, PEEK_SLICE, PEEK_SLICE_END, RANGE, REP_EXACT, REP_MAX, REP_MIN, REP_MIN_MAX,
-    Refusal, SKIP, STR,
+    IDENT, INSENS, LentTable, PEEK_SLICE, PEEK_SLICE_END, RANGE, REP_EXACT, REP_MAX, REP_MIN,
+    REP_MIN_MAX, Refusal, SKIP, STR,
 };
 use optimizer::REPORT;
 use std::{fmt, io};
@@ -40,7 +40,7 @@ const WHOLE: usize = 16;
 const ENDS: usize = 4;
 
 // A table before and after the call.
-pub fn both(rt: &impl Print, before: Table<'_>) -> io::Result<()> {
+pub fn both(rt: &impl Print, before: LentTable<'_>) -> io::Result<()> {
     println!(rt; "  before")?;
     table(rt, before)?;
     explain::loops(rt, before)?;
@@ -71,7 +71,7 @@ fn reason(r: Refusal) -> &'static str {
     }
 }
 
-fn table(rt: &impl Print, t: Table<'_>) -> io::Result<()> {
+fn table(rt: &impl Print, t: LentTable<'_>) -> io::Result<()> {
     for rule in Rules::new(t) {
         let ty = TYPES.get(rule.ty as usize).copied().unwrap_or("");
         println!(rt; "    {}, {ty}", rule.name)?;

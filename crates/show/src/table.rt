@@ -2,8 +2,7 @@
 ghost use Rattle.std.specs.Prelude.{◌≤◌, length};
 ghost use Rattle.std.specs.Iterator.{at_most};
 
-use areas::Table;
-use grammar::{ROW_WIDTH, RULE_WIDTH};
+use grammar::{LentTable, ROW_WIDTH, RULE_WIDTH};
 
 pub type Row = [u32; ROW_WIDTH];
 
@@ -27,7 +26,7 @@ pub struct Rules<'a> {
 }
 
 impl<'a> Rules<'a> {
-    pub fn new(t: Table<'a>) -> Self {
+    pub fn new(t: LentTable<'a>) -> Self {
         Rules {
             rules: t.rules.as_chunks().0,
             first: 0,
@@ -37,7 +36,7 @@ impl<'a> Rules<'a> {
     }
 }
 
-pub fn rows(t: Table<'_>) -> &[Row] {
+pub fn rows(t: LentTable<'_>) -> &[Row] {
     t.rows.as_chunks().0
 }
 

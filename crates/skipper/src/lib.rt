@@ -26,8 +26,8 @@ ghost use Rattle.skipper.specs.declared.Node.TheVariants.{Pair};
 ghost use Rattle.skipper.specs.Skips.{node_of, is_list, ListAnswer, Spelled, literal_at, Named, BodyAt, Skipped, Settles, Settling, FallAnswer, Rising, RisenAnswer, CrownedAnswer};
 
 use grammar::{
-    ATOMIC, CHOICE, IDENT, MARK_WIDTH, NEG_PRED, REP, ROW_WIDTH, ROWS, RULE_WIDTH, Refusal, SEQ,
-    SKIP, STR, TYPE,
+    ATOMIC, CHOICE, IDENT, LentTable, MARK_WIDTH, NEG_PRED, REP, ROW_WIDTH, ROWS, RULE_WIDTH,
+    Refusal, SEQ, SKIP, STR, TYPE,
 };
 use names::{END, MEMORY};
 use rows::Shape;
@@ -60,27 +60,19 @@ enum Fallen {
 }
 
 // The rule of the table with the text `given` that the Ident of row `root` names.
-fn rule_at(
-    rules: &[u32],
-    given: &[u8],
-    marks: &[u32],
-    rows: &[u32],
-    text: &[u8],
-    root: usize,
-) -> Option<usize>
-    requires all_indexed { AllIndexed rules.now given.now marks.now }
-    requires inside { Inside rows.now (length text.now) }
-    requires root_in_bounds { root < length rows.now / row_width }
-    requires root_value { kind_at rows.now root ≡ k_ident }
-    ensures { Finds (length rules.now / rule_width) rules.now given.now (literal_at rows.now text.now root) result }
+fn rule_at(given: &LentTable, marks: &[u32], table: &LentTable, root: usize) -> Option<usize>
+    requires all_indexed { AllIndexed given.now.rules.now given.now.text.now marks.now }
+    requires inside { Inside table.now.rows.now (length table.now.text.now) }
+    requires root_in_bounds { root < length table.now.rows.now / row_width }
+    requires root_value { kind_at table.now.rows.now root ≡ k_ident }
+    ensures { Finds (length given.now.rules.now / rule_width) given.now.rules.now given.now.text.now (literal_at table.now.rows.now table.now.text.now root) result }
 {
     names::find_rule(
-        rules,
         given,
         marks,
-        text,
-        rows::x_at(rows, root),
-        rows::y_at(rows, root),
+        table.text,
+        rows::x_at(table.rows, root),
+        rows::y_at(table.rows, root),
     )
 }
 
@@ -109,114 +101,94 @@ fn recalled(w: u32) -> Result<(), Unlisted>
 
 // Reads rule i, which was not read.
 #[cycle(read_in_read_leaf_read_rule)]
-fn read_rule(
-    rules: &[u32],
-    rows: &[u32],
-    text: &[u8],
-    marks: &mut [u32],
-    i: usize,
-) -> Result<(), Unlisted>
-    requires given { Given rules.now rows.now text.now marks.old }
-    requires i_in_bounds { i < length rules.now / rule_width }
+fn read_rule(table: &LentTable, marks: &mut [u32], i: usize) -> Result<(), Unlisted>
+    requires given { Given table.now.rules.now table.now.rows.now table.now.text.now marks.old }
+    requires i_in_bounds { i < length table.now.rules.now / rule_width }
     requires memory_word_value { get_or marks.old (i * mark_width + memory_word) 0 ≡ 0 }
     ensures steady { Steady marks.old marks.new }
-    ensures reads_of { (t : Table Span) (x : Bytes) → Lent rules.now rows.now t → First (length rules.now / rule_width) rules.now text.now x i → ReadsOf text.now t marks.old marks.new (memory_of result) (λ look. look x) }
+    ensures reads_of { (t : Table Span) (x : Bytes) → Lent table.now.rules.now table.now.rows.now t → First (length table.now.rules.now / rule_width) table.now.rules.now table.now.text.now x i → ReadsOf table.now.text.now t marks.old marks.new (memory_of result) (λ look. look x) }
 {
     let at = i * MARK_WIDTH;
     let end = marks[at + END] as usize;
     marks[at + MEMORY] = Unlisted::Again as u32;
-    let a = read_in(rules, rows, text, marks, end - 1);
+    let a = read_in(table, marks, end - 1);
     marks[at + MEMORY] = memory_of(a);
     a
 }
 
 // Reads a literal: what a Choice has on its left must be Str or Ident.
 #[cycle(read_in_read_leaf_read_rule)]
-fn read_leaf(
-    rules: &[u32],
-    rows: &[u32],
-    text: &[u8],
-    marks: &mut [u32],
-    root: usize,
-) -> Result<(), Unlisted>
-    requires given { Given rules.now rows.now text.now marks.old }
-    requires stands { Stands rows.now root }
+fn read_leaf(table: &LentTable, marks: &mut [u32], root: usize) -> Result<(), Unlisted>
+    requires given { Given table.now.rules.now table.now.rows.now table.now.text.now marks.old }
+    requires stands { Stands table.now.rows.now root }
     ensures steady { Steady marks.old marks.new }
-    ensures reads_of { (t : Table Span) (r : Expr Span) → Lent rules.now rows.now t → At rows.now root r → ReadsOf text.now t marks.old marks.new (memory_of result) (λ look. read_left look (resolve text.now r)) }
+    ensures reads_of { (t : Table Span) (r : Expr Span) → Lent table.now.rules.now table.now.rows.now t → At table.now.rows.now root r → ReadsOf table.now.text.now t marks.old marks.new (memory_of result) (λ look. read_left look (resolve table.now.text.now r)) }
 {
-    let kind = rows::kind_at(rows, root);
+    let kind = rows::kind_at(table.rows, root);
     if kind == STR {
         return Ok(());
     }
     if kind != IDENT {
         return Err(Unlisted::Absent);
     }
-    let Some(i) = rule_at(rules, text, marks, rows, text, root) else {
+    let Some(i) = rule_at(table, marks, &*table, root) else {
         return Err(Unlisted::Absent);
     };
     let mark = marks[i * MARK_WIDTH + MEMORY];
     if mark != 0 {
         return recalled(mark);
     }
-    read_rule(rules, rows, text, marks, i)
+    read_rule(table, marks, i)
 }
 
 // Reads a rule's expression: of a Choice the left side, then the right.
 #[cycle(read_in_read_leaf_read_rule)]
-fn read_in(
-    rules: &[u32],
-    rows: &[u32],
-    text: &[u8],
-    marks: &mut [u32],
-    root: usize,
-) -> Result<(), Unlisted>
-    requires given { Given rules.now rows.now text.now marks.old }
-    requires stands { Stands rows.now root }
+fn read_in(table: &LentTable, marks: &mut [u32], root: usize) -> Result<(), Unlisted>
+    requires given { Given table.now.rules.now table.now.rows.now table.now.text.now marks.old }
+    requires stands { Stands table.now.rows.now root }
     ensures steady { Steady marks.old marks.new }
-    ensures reads_of { (t : Table Span) (r : Expr Span) → Lent rules.now rows.now t → At rows.now root r → ReadsOf text.now t marks.old marks.new (memory_of result) (λ look. read_in look (resolve text.now r)) }
+    ensures reads_of { (t : Table Span) (r : Expr Span) → Lent table.now.rules.now table.now.rows.now t → At table.now.rows.now root r → ReadsOf table.now.text.now t marks.old marks.new (memory_of result) (λ look. read_in look (resolve table.now.text.now r)) }
 {
-    if rows::kind_at(rows, root) != CHOICE {
-        return read_leaf(rules, rows, text, marks, root);
+    if rows::kind_at(table.rows, root) != CHOICE {
+        return read_leaf(table, marks, root);
     }
-    read_leaf(rules, rows, text, marks, rows::left_of(rows, root))?;
-    read_in(rules, rows, text, marks, root - 1)
+    read_leaf(table, marks, rows::left_of(table.rows, root))?;
+    read_in(table, marks, root - 1)
 }
 
 // Reads the expression of a loop, which counts as rotated: the leaves of its Choice tree from left to right.
-fn read_leaves(
-    rules: &[u32],
-    rows: &[u32],
-    text: &[u8],
-    marks: &mut [u32],
-    root: usize,
-) -> Result<(), Unlisted>
-    requires given { Given rules.now rows.now text.now marks.old }
-    requires stands { Stands rows.now root }
+fn read_leaves(table: &LentTable, marks: &mut [u32], root: usize) -> Result<(), Unlisted>
+    requires given { Given table.now.rules.now table.now.rows.now table.now.text.now marks.old }
+    requires stands { Stands table.now.rows.now root }
     ensures steady { Steady marks.old marks.new }
-    ensures reads_of { (t : Table Span) (r : Expr Span) → Lent rules.now rows.now t → At rows.now root r → ReadsOf text.now t marks.old marks.new (memory_of result) (λ look. read_in look (rotate (resolve text.now r))) }
+    ensures reads_of { (t : Table Span) (r : Expr Span) → Lent table.now.rules.now table.now.rows.now t → At table.now.rows.now root r → ReadsOf table.now.text.now t marks.old marks.new (memory_of result) (λ look. read_in look (rotate (resolve table.now.text.now r))) }
 {
-    if rows::kind_at(rows, root) != CHOICE {
-        return read_leaf(rules, rows, text, marks, root);
+    if rows::kind_at(table.rows, root) != CHOICE {
+        return read_leaf(table, marks, root);
     }
-    read_leaves(rules, rows, text, marks, rows::left_of(rows, root))?;
-    read_leaves(rules, rows, text, marks, root - 1)
+    read_leaves(table, marks, rows::left_of(table.rows, root))?;
+    read_leaves(table, marks, root - 1)
 }
 
 // The row of e where !e ~ ANY stands at `root`.
-fn in_loop(rows: &[u32], text: &[u8], root: usize) -> Option<usize>
-    requires inside { Inside rows.now (length text.now) }
-    requires stands { Stands rows.now root }
-    ensures { (r : Expr Span) → At rows.now root r → LoopAnswer result rows.now text.now (loop_over (un Rep (resolve text.now r))) }
+fn in_loop(table: &LentTable, root: usize) -> Option<usize>
+    requires inside { Inside table.now.rows.now (length table.now.text.now) }
+    requires stands { Stands table.now.rows.now root }
+    ensures { (r : Expr Span) → At table.now.rows.now root r → LoopAnswer result table.now.rows.now table.now.text.now (loop_over (un Rep (resolve table.now.text.now r))) }
 {
-    if rows::kind_at(rows, root) != SEQ {
+    if rows::kind_at(table.rows, root) != SEQ {
         return None;
     }
     let right = root - 1;
-    if rows::kind_at(rows, right) != IDENT {
+    if rows::kind_at(table.rows, right) != IDENT {
         return None;
     }
-    if names::is_any(text, rows::x_at(rows, right), rows::y_at(rows, right)) {
-        after_not(rows, right - 1)
+    if names::is_any(
+        table.text,
+        rows::x_at(table.rows, right),
+        rows::y_at(table.rows, right),
+    ) {
+        after_not(table.rows, right - 1)
     } else {
         None
     }
@@ -234,25 +206,19 @@ fn after_not(rows: &[u32], root: usize) -> Option<usize>
 }
 
 // Reads row i if it is a loop (!e ~ ANY)*.
-fn read_loop(
-    rules: &[u32],
-    rows: &[u32],
-    text: &[u8],
-    marks: &mut [u32],
-    i: usize,
-) -> Result<(), Refusal>
-    requires given { Given rules.now rows.now text.now marks.old }
-    requires stands { Stands rows.now i }
+fn read_loop(table: &LentTable, marks: &mut [u32], i: usize) -> Result<(), Refusal>
+    requires given { Given table.now.rules.now table.now.rows.now table.now.text.now marks.old }
+    requires stands { Stands table.now.rows.now i }
     ensures steady { Steady marks.old marks.new }
-    ensures loops_of { (t : Table Span) (r : Expr Span) → Lent rules.now rows.now t → At rows.now i r → LoopsOf text.now t marks.old marks.new result (λ look. open_at look (resolve text.now r)) }
+    ensures loops_of { (t : Table Span) (r : Expr Span) → Lent table.now.rules.now table.now.rows.now t → At table.now.rows.now i r → LoopsOf table.now.text.now t marks.old marks.new result (λ look. open_at look (resolve table.now.text.now r)) }
 {
-    if rows::kind_at(rows, i) != REP {
+    if rows::kind_at(table.rows, i) != REP {
         return Ok(());
     }
-    let Some(e) = in_loop(rows, text, i - 1) else {
+    let Some(e) = in_loop(table, i - 1) else {
         return Ok(());
     };
-    match read_leaves(rules, rows, text, marks, e) {
+    match read_leaves(table, marks, e) {
         Err(Unlisted::Again) => Err(Refusal::Cycle),
         Err(Unlisted::Absent) => Ok(()),
         Ok(()) => Ok(()),
@@ -260,62 +226,42 @@ fn read_loop(
 }
 
 // Reads the loops of the rows from `from` to `end`, which are one tree.
-fn read_loops(
-    rules: &[u32],
-    rows: &[u32],
-    text: &[u8],
-    marks: &mut [u32],
-    from: usize,
-    end: usize,
-) -> Result<(), Refusal>
-    requires given { Given rules.now rows.now text.now marks.old }
-    requires tree_rows { TreeRows rows.now from end }
+fn read_loops(table: &LentTable, marks: &mut [u32], from: usize, end: usize) -> Result<(), Refusal>
+    requires given { Given table.now.rules.now table.now.rows.now table.now.text.now marks.old }
+    requires tree_rows { TreeRows table.now.rows.now from end }
     ensures steady { Steady marks.old marks.new }
-    ensures loops_of { (t : Table Span) (r : Expr Span) → Lent rules.now rows.now t → At rows.now (end - 1) r → LoopsOf text.now t marks.old marks.new result (λ look. any_node (open_at look) (resolve text.now r)) }
+    ensures loops_of { (t : Table Span) (r : Expr Span) → Lent table.now.rules.now table.now.rows.now t → At table.now.rows.now (end - 1) r → LoopsOf table.now.text.now t marks.old marks.new result (λ look. any_node (open_at look) (resolve table.now.text.now r)) }
 {
     for i in from..end {
-        read_loop(rules, rows, text, marks, i)?;
+        read_loop(table, marks, i)?;
     }
     Ok(())
 }
 
 // Reads the loops of rule k, if it is Atomic.
-fn read_atomic(
-    rules: &[u32],
-    rows: &[u32],
-    text: &[u8],
-    marks: &mut [u32],
-    k: usize,
-) -> Result<(), Refusal>
-    requires given { Given rules.now rows.now text.now marks.old }
-    requires k_in_bounds { k < length rules.now / rule_width }
+fn read_atomic(table: &LentTable, marks: &mut [u32], k: usize) -> Result<(), Refusal>
+    requires given { Given table.now.rules.now table.now.rows.now table.now.text.now marks.old }
+    requires k_in_bounds { k < length table.now.rules.now / rule_width }
     ensures steady { Steady marks.old marks.new }
-    ensures loops_of { (t : Table Span) (r : Rule Span) → Lent rules.now rows.now t → get_elem? t k ≡ some r → LoopsOf text.now t marks.old marks.new result (λ look. rule_open look (resolve_rule text.now r)) }
+    ensures loops_of { (t : Table Span) (r : Rule Span) → Lent table.now.rules.now table.now.rows.now t → get_elem? t k ≡ some r → LoopsOf table.now.text.now t marks.old marks.new result (λ look. rule_open look (resolve_rule table.now.text.now r)) }
 {
     let at = k * RULE_WIDTH;
-    if rules[at + TYPE] != ATOMIC {
+    if table.rules[at + TYPE] != ATOMIC {
         return Ok(());
     }
     let end = marks[k * MARK_WIDTH + END] as usize;
-    read_loops(
-        rules,
-        rows,
-        text,
-        marks,
-        end - rules[at + ROWS] as usize,
-        end,
-    )
+    read_loops(table, marks, end - table.rules[at + ROWS] as usize, end)
 }
 
 // Reads the loops of all Atomic rules.
-fn read_rules(rules: &[u32], rows: &[u32], text: &[u8], marks: &mut [u32]) -> Result<(), Refusal>
-    requires { Given rules.now rows.now text.now marks.old }
+fn read_rules(table: &LentTable, marks: &mut [u32]) -> Result<(), Refusal>
+    requires { Given table.now.rules.now table.now.rows.now table.now.text.now marks.old }
     ensures steady { Steady marks.old marks.new }
-    ensures loops_of { (t : Table Span) → Lent rules.now rows.now t → LoopsOf text.now t marks.old marks.new result (λ look. any (rule_open look) (resolve_table text.now t)) }
+    ensures loops_of { (t : Table Span) → Lent table.now.rules.now table.now.rows.now t → LoopsOf table.now.text.now t marks.old marks.new result (λ look. any (rule_open look) (resolve_table table.now.text.now t)) }
 {
-    let count = rules.len() / RULE_WIDTH;
+    let count = table.rules.len() / RULE_WIDTH;
     for k in 0..count {
-        read_atomic(rules, rows, text, marks, k)?;
+        read_atomic(table, marks, k)?;
     }
     Ok(())
 }
@@ -330,44 +276,44 @@ fn told(marks: &[u32], i: usize) -> usize
 }
 
 // The rule that the expression of rule i names, where it is an Ident, else rule i.
-fn named_by(rules: &[u32], rows: &[u32], text: &[u8], marks: &[u32], i: usize) -> usize
-    requires given { Given rules.now rows.now text.now marks.now }
-    requires i_in_bounds { i < length rules.now / rule_width }
-    ensures { (t : Table Span) → Lent rules.now rows.now t → Gives (resolve_table text.now t) i result }
+fn named_by(table: &LentTable, marks: &[u32], i: usize) -> usize
+    requires given { Given table.now.rules.now table.now.rows.now table.now.text.now marks.now }
+    requires i_in_bounds { i < length table.now.rules.now / rule_width }
+    ensures { (t : Table Span) → Lent table.now.rules.now table.now.rows.now t → Gives (resolve_table table.now.text.now t) i result }
 {
     let root = marks[i * MARK_WIDTH + END] as usize - 1;
-    if rows::kind_at(rows, root) != IDENT {
+    if rows::kind_at(table.rows, root) != IDENT {
         return i;
     }
     // not names::find_known: that the name is a rule's follows from the list alone, which is not asked for here
-    rule_at(rules, text, marks, rows, text, root).unwrap_or(i)
+    rule_at(table, marks, &*table, root).unwrap_or(i)
 }
 
 // Tells rule i, if it has a list, which rule it names. Whether that is another.
-fn tell(rules: &[u32], rows: &[u32], text: &[u8], marks: &mut [u32], i: usize) -> bool
-    requires given { Given rules.now rows.now text.now marks.old }
-    requires i_in_bounds { i < length rules.now / rule_width }
+fn tell(table: &LentTable, marks: &mut [u32], i: usize) -> bool
+    requires given { Given table.now.rules.now table.now.rows.now table.now.text.now marks.old }
+    requires i_in_bounds { i < length table.now.rules.now / rule_width }
     ensures relisted { Relisted marks.old marks.new }
-    ensures targets_of { (t : Table Span) → Lent rules.now rows.now t → TargetsOf i (resolve_table text.now t) marks.old → TargetsOf (i + 1) (resolve_table text.now t) marks.new }
+    ensures targets_of { (t : Table Span) → Lent table.now.rules.now table.now.rows.now t → TargetsOf i (resolve_table table.now.text.now t) marks.old → TargetsOf (i + 1) (resolve_table table.now.text.now t) marks.new }
 {
     if marks[i * MARK_WIDTH + MEMORY] < LIST {
         return false;
     }
-    let j = named_by(rules, rows, text, marks, i);
+    let j = named_by(table, marks, i);
     marks[i * MARK_WIDTH + MEMORY] = LIST + j as u32;
     j != i
 }
 
 // Tells every rule that has a list which rule it names. Whether one of them names another.
-fn tell_all(rules: &[u32], rows: &[u32], text: &[u8], marks: &mut [u32]) -> bool
-    requires { Given rules.now rows.now text.now marks.old }
+fn tell_all(table: &LentTable, marks: &mut [u32]) -> bool
+    requires { Given table.now.rules.now table.now.rows.now table.now.text.now marks.old }
     ensures relisted { Relisted marks.old marks.new }
-    ensures targets { (t : Table Span) → Lent rules.now rows.now t → Targets (resolve_table text.now t) marks.new }
+    ensures targets { (t : Table Span) → Lent table.now.rules.now table.now.rows.now t → Targets (resolve_table table.now.text.now t) marks.new }
 {
-    let count = rules.len() / RULE_WIDTH;
+    let count = table.rules.len() / RULE_WIDTH;
     let mut others = false;
     for i in 0..count {
-        others |= tell(rules, rows, text, marks, i);
+        others |= tell(table, marks, i);
     }
     others
 }
@@ -399,14 +345,14 @@ fn pass_all(marks: &mut [u32], count: usize)
 }
 
 // Tells every rule that has a list in which rule's expression its strings are read, past rules that only name another.
-fn shorten(rules: &[u32], rows: &[u32], text: &[u8], marks: &mut [u32])
-    requires { Given rules.now rows.now text.now marks.old }
+fn shorten(table: &LentTable, marks: &mut [u32])
+    requires { Given table.now.rules.now table.now.rows.now table.now.text.now marks.old }
     ensures relisted { Relisted marks.old marks.new }
-    ensures targets { (t : Table Span) → Lent rules.now rows.now t → Targets (resolve_table text.now t) marks.new }
+    ensures targets { (t : Table Span) → Lent table.now.rules.now table.now.rows.now t → Targets (resolve_table table.now.text.now t) marks.new }
 {
-    let count = rules.len() / RULE_WIDTH;
+    let count = table.rules.len() / RULE_WIDTH;
     // most tables have no way to shorten
-    if !tell_all(rules, rows, text, marks) {
+    if !tell_all(table, marks) {
         return;
     }
     let mut steps = 1;
@@ -417,19 +363,14 @@ fn shorten(rules: &[u32], rows: &[u32], text: &[u8], marks: &mut [u32])
 }
 
 // Reads every skip list of a table as it was given. The one refusal is Cycle.
-pub fn read_lists(
-    rules: &[u32],
-    rows: &[u32],
-    text: &[u8],
-    marks: &mut [u32],
-) -> Result<(), Refusal>
-    requires { Given rules.now rows.now text.now marks.old }
-    ensures given { Given rules.now rows.now text.now marks.new }
-    ensures lists_answer { (t : Table Span) → Lent rules.now rows.now t → ListsAnswer result (resolve_table text.now t) marks.new }
+pub fn read_lists(table: &LentTable, marks: &mut [u32]) -> Result<(), Refusal>
+    requires { Given table.now.rules.now table.now.rows.now table.now.text.now marks.old }
+    ensures given { Given table.now.rules.now table.now.rows.now table.now.text.now marks.new }
+    ensures lists_answer { (t : Table Span) → Lent table.now.rules.now table.now.rows.now t → ListsAnswer result (resolve_table table.now.text.now t) marks.new }
 {
-    names::forget(marks, rules.len() / RULE_WIDTH);
-    read_rules(rules, rows, text, marks)?;
-    shorten(rules, rows, text, marks);
+    names::forget(marks, table.rules.len() / RULE_WIDTH);
+    read_rules(table, marks)?;
+    shorten(table, marks);
     Ok(())
 }
 
@@ -445,93 +386,71 @@ fn node_of(kind: u32) -> Node
 }
 
 // Whether a literal has a list, by the marks of the table with the text `given`.
-fn leaf_listed(
-    rules: &[u32],
-    given: &[u8],
-    marks: &[u32],
-    rows: &[u32],
-    text: &[u8],
-    root: usize,
-) -> bool
-    requires all_indexed { AllIndexed rules.now given.now marks.now }
-    requires inside { Inside rows.now (length text.now) }
-    requires stands { Stands rows.now root }
-    ensures { (t : Table Span) (r : Expr Span) → rules.now ≡ rule_words t → At rows.now root r → result ≡ is_list (read_left (by_marks (lists_of (resolve_table given.now t) marks.now)) (resolve text.now r)) }
+fn leaf_listed(given: &LentTable, marks: &[u32], table: &LentTable, root: usize) -> bool
+    requires all_indexed { AllIndexed given.now.rules.now given.now.text.now marks.now }
+    requires inside { Inside table.now.rows.now (length table.now.text.now) }
+    requires stands { Stands table.now.rows.now root }
+    ensures { (t : Table Span) (r : Expr Span) → given.now.rules.now ≡ rule_words t → At table.now.rows.now root r → result ≡ is_list (read_left (by_marks (lists_of (resolve_table given.now.text.now t) marks.now)) (resolve table.now.text.now r)) }
 {
-    let kind = rows::kind_at(rows, root);
+    let kind = rows::kind_at(table.rows, root);
     if kind == STR {
         return true;
     }
     if kind != IDENT {
         return false;
     }
-    let Some(i) = rule_at(rules, given, marks, rows, text, root) else {
+    let Some(i) = rule_at(given, marks, table, root) else {
         return false;
     };
     marks[i * MARK_WIDTH + MEMORY] >= LIST
 }
 
 // Whether an expression has a list, by the marks.
-fn listed(
-    rules: &[u32],
-    given: &[u8],
-    marks: &[u32],
-    rows: &[u32],
-    text: &[u8],
-    root: usize,
-) -> bool
-    requires all_indexed { AllIndexed rules.now given.now marks.now }
-    requires inside { Inside rows.now (length text.now) }
-    requires stands { Stands rows.now root }
-    ensures { (t : Table Span) (r : Expr Span) → rules.now ≡ rule_words t → At rows.now root r → result ≡ is_list (read_in (by_marks (lists_of (resolve_table given.now t) marks.now)) (resolve text.now r)) }
+fn listed(given: &LentTable, marks: &[u32], table: &LentTable, root: usize) -> bool
+    requires all_indexed { AllIndexed given.now.rules.now given.now.text.now marks.now }
+    requires inside { Inside table.now.rows.now (length table.now.text.now) }
+    requires stands { Stands table.now.rows.now root }
+    ensures { (t : Table Span) (r : Expr Span) → given.now.rules.now ≡ rule_words t → At table.now.rows.now root r → result ≡ is_list (read_in (by_marks (lists_of (resolve_table given.now.text.now t) marks.now)) (resolve table.now.text.now r)) }
 {
-    if rows::kind_at(rows, root) != CHOICE {
-        return leaf_listed(rules, given, marks, rows, text, root);
+    if rows::kind_at(table.rows, root) != CHOICE {
+        return leaf_listed(given, marks, table, root);
     }
-    leaf_listed(rules, given, marks, rows, text, rows::left_of(rows, root))
-        && listed(rules, given, marks, rows, text, root - 1)
+    leaf_listed(given, marks, table, rows::left_of(table.rows, root))
+        && listed(given, marks, table, root - 1)
 }
 
 // The row of e where a loop (!e ~ ANY)* stands at `root` and e has a list.
-fn list_at(
-    rules: &[u32],
-    given: &[u8],
-    marks: &[u32],
-    rows: &[u32],
-    text: &[u8],
-    root: usize,
-) -> Option<usize>
-    requires all_indexed { AllIndexed rules.now given.now marks.now }
-    requires inside { Inside rows.now (length text.now) }
-    requires stands { Stands rows.now root }
-    ensures { (t : Table Span) (r : Expr Span) → rules.now ≡ rule_words t → At rows.now root r → ListAnswer result rows.now text.now (by_marks (lists_of (resolve_table given.now t) marks.now)) (resolve text.now r) }
+fn list_at(given: &LentTable, marks: &[u32], table: &LentTable, root: usize) -> Option<usize>
+    requires all_indexed { AllIndexed given.now.rules.now given.now.text.now marks.now }
+    requires inside { Inside table.now.rows.now (length table.now.text.now) }
+    requires stands { Stands table.now.rows.now root }
+    ensures { (t : Table Span) (r : Expr Span) → given.now.rules.now ≡ rule_words t → At table.now.rows.now root r → ListAnswer result table.now.rows.now table.now.text.now (by_marks (lists_of (resolve_table given.now.text.now t) marks.now)) (resolve table.now.text.now r) }
 {
-    if rows::kind_at(rows, root) != REP {
+    if rows::kind_at(table.rows, root) != REP {
         return None;
     }
-    let e = in_loop(rows, text, root - 1)?;
-    listed(rules, given, marks, rows, text, e).then_some(e)
+    let e = in_loop(table, root - 1)?;
+    listed(given, marks, table, e).then_some(e)
 }
 
 // Writes the Str of row `root`.
 fn put_str(
-    rows: &[u32],
-    text: &[u8],
+    table: &LentTable,
     root: usize,
     out: &mut [u32],
     lits: &mut [u8],
     p: Place,
 ) -> Option<Place>
-    requires inside { Inside rows.now (length text.now) }
-    requires root_in_bounds { root < length rows.now / row_width }
-    requires root_value { kind_at rows.now root ≡ k_str }
+    requires inside { Inside table.now.rows.now (length table.now.text.now) }
+    requires root_in_bounds { root < length table.now.rows.now / row_width }
+    requires root_value { kind_at table.now.rows.now root ≡ k_str }
     requires room { Room p out.old lits.old }
-    ensures { LitAnswer result p 0 (literal_at rows.now text.now root) out.old out.new lits.old lits.new }
+    ensures { LitAnswer result p 0 (literal_at table.now.rows.now table.now.text.now root) out.old out.new lits.old lits.new }
 {
     writing::put_lit(
-        text,
-        rows::x_at(rows, root),
-        rows::y_at(rows, root),
+        table.text,
+        rows::x_at(table.rows, root),
+        rows::y_at(table.rows, root),
         STR,
         out,
         lits,
@@ -540,24 +459,17 @@ fn put_str(
 }
 
 // The row of an expression that gives the strings of the Ident of row `root`, which names a rule of the table with the text `given_text`.
-fn body_of(
-    given_rules: &[u32],
-    given_text: &[u8],
-    marks: &[u32],
-    rows: &[u32],
-    text: &[u8],
-    root: usize,
-) -> usize
-    requires named { Named given_rules.now given_text.now marks.now }
-    requires inside { Inside rows.now (length text.now) }
-    requires root_in_bounds { root < length rows.now / row_width }
-    requires root_value { kind_at rows.now root ≡ k_ident }
-    requires name { IsName given_rules.now given_text.now (literal_at rows.now text.now root) }
-    ensures { (w : List ℕ) (t : Table Span) → Lent given_rules.now w t → Targets (resolve_table given_text.now t) marks.now → BodyAt result w given_text.now t (literal_at rows.now text.now root) }
+fn body_of(given: &LentTable, marks: &[u32], table: &LentTable, root: usize) -> usize
+    requires named { Named given.now.rules.now given.now.text.now marks.now }
+    requires inside { Inside table.now.rows.now (length table.now.text.now) }
+    requires root_in_bounds { root < length table.now.rows.now / row_width }
+    requires root_value { kind_at table.now.rows.now root ≡ k_ident }
+    requires name { IsName given.now.rules.now given.now.text.now (literal_at table.now.rows.now table.now.text.now root) }
+    ensures { (w : List ℕ) (t : Table Span) → Lent given.now.rules.now w t → Targets (resolve_table given.now.text.now t) marks.now → BodyAt result w given.now.text.now t (literal_at table.now.rows.now table.now.text.now root) }
 {
-    let x = rows::x_at(rows, root);
-    let y = rows::y_at(rows, root);
-    let i = names::find_known(given_rules, given_text, marks, text, x, y);
+    let x = rows::x_at(table.rows, root);
+    let y = rows::y_at(table.rows, root);
+    let i = names::find_known(given, marks, table.text, x, y);
     let k = told(marks, i);
     marks[k * MARK_WIDTH + END] as usize - 1
 }
@@ -565,47 +477,32 @@ fn body_of(
 // Writes the strings of a literal: itself, or those of the rule that it names, through at most `fuel` rules.
 #[cycle(write_leaf_write_rule)]
 fn write_leaf(
-    given_rules: &[u32],
-    given_rows: &[u32],
-    given_text: &[u8],
+    given: &LentTable,
     marks: &[u32],
-    rows: &[u32],
-    text: &[u8],
+    table: &LentTable,
     root: usize,
     fuel: usize,
     out: &mut [u32],
     lits: &mut [u8],
     p: Place,
 ) -> Option<Place>
-    requires led { Led given_rules.now given_rows.now given_text.now marks.now }
-    requires inside { Inside rows.now (length text.now) }
-    requires spelled { Spelled given_rules.now given_rows.now given_text.now rows.now text.now root fuel read_left }
+    requires led { Led given.now.rules.now given.now.rows.now given.now.text.now marks.now }
+    requires inside { Inside table.now.rows.now (length table.now.text.now) }
+    requires spelled { Spelled given.now.rules.now given.now.rows.now given.now.text.now table.now.rows.now table.now.text.now root fuel read_left }
     requires room { Room p out.old lits.old }
-    ensures { (t : Table Span) (r : Expr Span) (ss : List Bytes) → Lent given_rules.now given_rows.now t → At rows.now root r → Spells (resolve_table given_text.now t) fuel (λ look. read_left look (resolve text.now r)) ss → StrsAnswer result p ss out.old out.new lits.old lits.new }
+    ensures { (t : Table Span) (r : Expr Span) (ss : List Bytes) → Lent given.now.rules.now given.now.rows.now t → At table.now.rows.now root r → Spells (resolve_table given.now.text.now t) fuel (λ look. read_left look (resolve table.now.text.now r)) ss → StrsAnswer result p ss out.old out.new lits.old lits.new }
 {
-    if rows::kind_at(rows, root) == STR {
-        return put_str(rows, text, root, out, lits, p);
+    if rows::kind_at(table.rows, root) == STR {
+        return put_str(table, root, out, lits, p);
     }
-    let body = body_of(given_rules, given_text, marks, rows, text, root);
-    write_rule(
-        given_rules,
-        given_rows,
-        given_text,
-        marks,
-        body,
-        fuel - 1,
-        out,
-        lits,
-        p,
-    )
+    let body = body_of(given, marks, table, root);
+    write_rule(given, marks, body, fuel - 1, out, lits, p)
 }
 
 // Writes the strings of a rule's expression, in reading order: a call for what a Choice has on its left, none for the last leaf.
 #[cycle(write_leaf_write_rule)]
 fn write_rule(
-    rules: &[u32],
-    rows: &[u32],
-    text: &[u8],
+    table: &LentTable,
     marks: &[u32],
     root: usize,
     fuel: usize,
@@ -613,106 +510,70 @@ fn write_rule(
     lits: &mut [u8],
     p: Place,
 ) -> Option<Place>
-    requires led { Led rules.now rows.now text.now marks.now }
-    requires spelled { Spelled rules.now rows.now text.now rows.now text.now root fuel read_in }
+    requires led { Led table.now.rules.now table.now.rows.now table.now.text.now marks.now }
+    requires spelled { Spelled table.now.rules.now table.now.rows.now table.now.text.now table.now.rows.now table.now.text.now root fuel read_in }
     requires room { Room p out.old lits.old }
-    ensures { (t : Table Span) (r : Expr Span) (ss : List Bytes) → Lent rules.now rows.now t → At rows.now root r → Spells (resolve_table text.now t) fuel (λ look. read_in look (resolve text.now r)) ss → StrsAnswer result p ss out.old out.new lits.old lits.new }
+    ensures { (t : Table Span) (r : Expr Span) (ss : List Bytes) → Lent table.now.rules.now table.now.rows.now t → At table.now.rows.now root r → Spells (resolve_table table.now.text.now t) fuel (λ look. read_in look (resolve table.now.text.now r)) ss → StrsAnswer result p ss out.old out.new lits.old lits.new }
 {
     let mut at = root;
     let mut fuel_left = fuel;
     let mut q = p;
-    while rows::kind_at(rows, at) != STR {
-        if rows::kind_at(rows, at) == CHOICE {
-            let leaf = rows::left_of(rows, at);
-            q = write_leaf(
-                rules, rows, text, marks, rows, text, leaf, fuel_left, out, lits, q,
-            )?;
+    while rows::kind_at(table.rows, at) != STR {
+        if rows::kind_at(table.rows, at) == CHOICE {
+            let leaf = rows::left_of(table.rows, at);
+            q = write_leaf(table, marks, &*table, leaf, fuel_left, out, lits, q)?;
             at -= 1;
         } else {
-            at = body_of(rules, text, marks, rows, text, at);
+            at = body_of(table, marks, &*table, at);
             fuel_left -= 1;
         }
     }
-    put_str(rows, text, at, out, lits, q)
+    put_str(table, at, out, lits, q)
 }
 
 // Writes the strings of a loop's expression that has a list, in reading order.
 fn write_list(
-    given_rules: &[u32],
-    given_rows: &[u32],
-    given_text: &[u8],
+    given: &LentTable,
     marks: &[u32],
-    rows: &[u32],
-    text: &[u8],
+    table: &LentTable,
     root: usize,
     fuel: usize,
     out: &mut [u32],
     lits: &mut [u8],
     p: Place,
 ) -> Option<Place>
-    requires led { Led given_rules.now given_rows.now given_text.now marks.now }
-    requires inside { Inside rows.now (length text.now) }
-    requires spelled { Spelled given_rules.now given_rows.now given_text.now rows.now text.now root fuel read_in }
+    requires led { Led given.now.rules.now given.now.rows.now given.now.text.now marks.now }
+    requires inside { Inside table.now.rows.now (length table.now.text.now) }
+    requires spelled { Spelled given.now.rules.now given.now.rows.now given.now.text.now table.now.rows.now table.now.text.now root fuel read_in }
     requires room { Room p out.old lits.old }
-    ensures { (t : Table Span) (r : Expr Span) (ss : List Bytes) → Lent given_rules.now given_rows.now t → At rows.now root r → Spells (resolve_table given_text.now t) fuel (λ look. read_in look (resolve text.now r)) ss → StrsAnswer result p ss out.old out.new lits.old lits.new }
+    ensures { (t : Table Span) (r : Expr Span) (ss : List Bytes) → Lent given.now.rules.now given.now.rows.now t → At table.now.rows.now root r → Spells (resolve_table given.now.text.now t) fuel (λ look. read_in look (resolve table.now.text.now r)) ss → StrsAnswer result p ss out.old out.new lits.old lits.new }
 {
     let mut at = root;
     let mut q = p;
-    while rows::kind_at(rows, at) == CHOICE {
-        let leaf = rows::left_of(rows, at);
-        q = write_leaf(
-            given_rules,
-            given_rows,
-            given_text,
-            marks,
-            rows,
-            text,
-            leaf,
-            fuel,
-            out,
-            lits,
-            q,
-        )?;
+    while rows::kind_at(table.rows, at) == CHOICE {
+        let leaf = rows::left_of(table.rows, at);
+        q = write_leaf(given, marks, table, leaf, fuel, out, lits, q)?;
         at -= 1;
     }
-    write_leaf(
-        given_rules,
-        given_rows,
-        given_text,
-        marks,
-        rows,
-        text,
-        at,
-        fuel,
-        out,
-        lits,
-        q,
-    )
+    write_leaf(given, marks, table, at, fuel, out, lits, q)
 }
 
 // Goes down from `root` through rows with one child, as long as none is a loop that has a list.
-fn fall(
-    rules: &[u32],
-    given: &[u8],
-    marks: &[u32],
-    rows: &[u32],
-    text: &[u8],
-    root: usize,
-) -> Fallen
-    requires all_indexed { AllIndexed rules.now given.now marks.now }
-    requires inside { Inside rows.now (length text.now) }
-    requires stands { Stands rows.now root }
-    ensures { (t : Table Span) (r : Expr Span) → rules.now ≡ rule_words t → At rows.now root r → Settles (resolve_table given.now t) marks.now (resolve text.now r) → FallAnswer result (resolve_table given.now t) marks.now rows.now text.now root r }
+fn fall(given: &LentTable, marks: &[u32], table: &LentTable, root: usize) -> Fallen
+    requires all_indexed { AllIndexed given.now.rules.now given.now.text.now marks.now }
+    requires inside { Inside table.now.rows.now (length table.now.text.now) }
+    requires stands { Stands table.now.rows.now root }
+    ensures { (t : Table Span) (r : Expr Span) → given.now.rules.now ≡ rule_words t → At table.now.rows.now root r → Settles (resolve_table given.now.text.now t) marks.now (resolve table.now.text.now r) → FallAnswer result (resolve_table given.now.text.now t) marks.now table.now.rows.now table.now.text.now root r }
 {
     let mut base = root;
     while base > 0 {
-        let kind = rows::kind_at(rows, base);
+        let kind = rows::kind_at(table.rows, base);
         match node_of(kind) {
             Node::Leaf => {
                 return Fallen::Plain;
             }
             Node::Single => {
-                if let Some(e) = list_at(rules, given, marks, rows, text, base) {
+                if let Some(e) = list_at(given, marks, table, base) {
                     return Fallen::Looped { base, e };
                 }
                 base -= 1;
@@ -765,12 +626,9 @@ fn crown(
 
 // Writes the Skip of the loop's expression e, and over it the rows after `base` up to `root`.
 fn skip_loop(
-    given_rules: &[u32],
-    given_rows: &[u32],
-    given_text: &[u8],
+    given: &LentTable,
     marks: &[u32],
-    rows: &[u32],
-    text: &[u8],
+    table: &LentTable,
     base: usize,
     root: usize,
     e: usize,
@@ -778,40 +636,25 @@ fn skip_loop(
     lits: &mut [u8],
     p: Place,
 ) -> Option<Place>
-    requires led { Led given_rules.now given_rows.now given_text.now marks.now }
-    requires inside { Inside rows.now (length text.now) }
-    requires skipped { Skipped given_rules.now given_rows.now given_text.now rows.now text.now e }
-    requires base_le_root { (base ≤ root) × (root < length rows.now / row_width) }
+    requires led { Led given.now.rules.now given.now.rows.now given.now.text.now marks.now }
+    requires inside { Inside table.now.rows.now (length table.now.text.now) }
+    requires skipped { Skipped given.now.rules.now given.now.rows.now given.now.text.now table.now.rows.now table.now.text.now e }
+    requires base_le_root { (base ≤ root) × (root < length table.now.rows.now / row_width) }
     requires room { Room p out.old lits.old }
-    ensures { (t : Table Span) (us : List Un) (c r : Expr Span) (ss : List Bytes) → Lent given_rules.now given_rows.now t → At rows.now root (wrap us c) → base + length us ≡ root → At rows.now e r → skip_list (resolve_table given_text.now t) (resolve text.now r) ≡ strings ss → Answer result p (wrap us (skip ss)) out.old out.new lits.old lits.new }
+    ensures { (t : Table Span) (us : List Un) (c r : Expr Span) (ss : List Bytes) → Lent given.now.rules.now given.now.rows.now t → At table.now.rows.now root (wrap us c) → base + length us ≡ root → At table.now.rows.now e r → skip_list (resolve_table given.now.text.now t) (resolve table.now.text.now r) ≡ strings ss → Answer result p (wrap us (skip ss)) out.old out.new lits.old lits.new }
 {
-    let fuel = given_rules.len() / RULE_WIDTH + 1;
-    let q = write_list(
-        given_rules,
-        given_rows,
-        given_text,
-        marks,
-        rows,
-        text,
-        e,
-        fuel,
-        out,
-        lits,
-        p,
-    )?;
+    let fuel = given.rules.len() / RULE_WIDTH + 1;
+    let q = write_list(given, marks, table, e, fuel, out, lits, p)?;
     let n = q.rows - p.rows;
-    crown(rows, base, root, out, p, q, SKIP, n as u32)
+    crown(table.rows, base, root, out, p, q, SKIP, n as u32)
 }
 
 // Step 2 at a row with two children, and over it the rows after `base` up to `root`.
 #[cycle(skip_fork_skip_tree)]
 fn skip_fork(
-    given_rules: &[u32],
-    given_rows: &[u32],
-    given_text: &[u8],
+    given: &LentTable,
     marks: &[u32],
-    rows: &[u32],
-    text: &[u8],
+    table: &LentTable,
     base: usize,
     root: usize,
     kind: u32,
@@ -819,87 +662,49 @@ fn skip_fork(
     lits: &mut [u8],
     p: Place,
 ) -> Option<Place>
-    requires given { Given given_rules.now given_rows.now given_text.now marks.now }
-    requires inside { Inside rows.now (length text.now) }
-    requires settling { Settling given_rules.now given_rows.now given_text.now marks.now rows.now text.now base }
-    requires kind_value { (kind ≡ kind_at rows.now base) × (node_of kind ≡ Pair) }
-    requires base_le_root { (base ≤ root) × (root < length rows.now / row_width) }
+    requires given { Given given.now.rules.now given.now.rows.now given.now.text.now marks.now }
+    requires inside { Inside table.now.rows.now (length table.now.text.now) }
+    requires settling { Settling given.now.rules.now given.now.rows.now given.now.text.now marks.now table.now.rows.now table.now.text.now base }
+    requires kind_value { (kind ≡ kind_at table.now.rows.now base) × (node_of kind ≡ Pair) }
+    requires base_le_root { (base ≤ root) × (root < length table.now.rows.now / row_width) }
     requires room { Room p out.old lits.old }
-    ensures { (t : Table Span) (us : List Un) (r : Expr Span) → Lent given_rules.now given_rows.now t → At rows.now base r → Settles (resolve_table given_text.now t) marks.now (resolve text.now r) → At rows.now root (wrap us r) → base + length us ≡ root → Answer result p (wrap us (top_down (or_same (skip? (resolve_table given_text.now t))) (resolve text.now r))) out.old out.new lits.old lits.new }
+    ensures { (t : Table Span) (us : List Un) (r : Expr Span) → Lent given.now.rules.now given.now.rows.now t → At table.now.rows.now base r → Settles (resolve_table given.now.text.now t) marks.now (resolve table.now.text.now r) → At table.now.rows.now root (wrap us r) → base + length us ≡ root → Answer result p (wrap us (top_down (or_same (skip? (resolve_table given.now.text.now t))) (resolve table.now.text.now r))) out.old out.new lits.old lits.new }
 {
     // one call for both children: a second one makes every level of nesting take more stack
-    let mut child = rows::left_of(rows, base);
+    let mut child = rows::left_of(table.rows, base);
     let mut next = base - 1;
     let mut q = p;
     while child < base {
-        q = skip_tree(
-            given_rules,
-            given_rows,
-            given_text,
-            marks,
-            rows,
-            text,
-            child,
-            out,
-            lits,
-            q,
-        )?;
+        q = skip_tree(given, marks, table, child, out, lits, q)?;
         child = next;
         next = base;
     }
-    crown(rows, base, root, out, p, q, kind, 0)
+    crown(table.rows, base, root, out, p, q, kind, 0)
 }
 
 // Step 2 from the top of a subtree, as it stands after step 1, with lists looked up in the table as it was given.
 // Rows with one child take a loop down and a loop up, not a call each: a run of them takes no stack.
 #[cycle(skip_fork_skip_tree)]
 fn skip_tree(
-    given_rules: &[u32],
-    given_rows: &[u32],
-    given_text: &[u8],
+    given: &LentTable,
     marks: &[u32],
-    rows: &[u32],
-    text: &[u8],
+    table: &LentTable,
     root: usize,
     out: &mut [u32],
     lits: &mut [u8],
     p: Place,
 ) -> Option<Place>
-    requires given { Given given_rules.now given_rows.now given_text.now marks.now }
-    requires inside { Inside rows.now (length text.now) }
-    requires settling { Settling given_rules.now given_rows.now given_text.now marks.now rows.now text.now root }
+    requires given { Given given.now.rules.now given.now.rows.now given.now.text.now marks.now }
+    requires inside { Inside table.now.rows.now (length table.now.text.now) }
+    requires settling { Settling given.now.rules.now given.now.rows.now given.now.text.now marks.now table.now.rows.now table.now.text.now root }
     requires room { Room p out.old lits.old }
-    ensures { (t : Table Span) (r : Expr Span) → Lent given_rules.now given_rows.now t → At rows.now root r → Settles (resolve_table given_text.now t) marks.now (resolve text.now r) → Answer result p (top_down (or_same (skip? (resolve_table given_text.now t))) (resolve text.now r)) out.old out.new lits.old lits.new }
+    ensures { (t : Table Span) (r : Expr Span) → Lent given.now.rules.now given.now.rows.now t → At table.now.rows.now root r → Settles (resolve_table given.now.text.now t) marks.now (resolve table.now.text.now r) → Answer result p (top_down (or_same (skip? (resolve_table given.now.text.now t))) (resolve table.now.text.now r)) out.old out.new lits.old lits.new }
 {
-    match fall(given_rules, given_text, marks, rows, text, root) {
-        Fallen::Plain => writing::copy(rows, text, root, out, lits, p),
-        Fallen::Looped { base, e } => skip_loop(
-            given_rules,
-            given_rows,
-            given_text,
-            marks,
-            rows,
-            text,
-            base,
-            root,
-            e,
-            out,
-            lits,
-            p,
-        ),
+    match fall(given, marks, table, root) {
+        Fallen::Plain => writing::copy(table, root, out, lits, p),
+        Fallen::Looped { base, e } => skip_loop(given, marks, table, base, root, e, out, lits, p),
         Fallen::Forked { base, kind } => skip_fork(
-            given_rules,
-            given_rows,
-            given_text,
-            marks,
-            rows,
-            text,
-            base,
-            root,
-            kind,
-            out,
-            lits,
-            p,
+            given, marks, table, base, root, kind, out, lits, p,
         ),
     }
 }
@@ -915,39 +720,25 @@ pub fn fires(rows: &[u32], i: usize) -> bool
 
 // Step 2 of a rule's expression, as it stands after step 1: "Atomic only".
 pub fn skip(
-    given_rules: &[u32],
-    given_rows: &[u32],
-    given_text: &[u8],
+    given: &LentTable,
     marks: &[u32],
-    rows: &[u32],
-    text: &[u8],
+    table: &LentTable,
     root: usize,
     rule_type: u32,
     out: &mut [u32],
     lits: &mut [u8],
     p: Place,
 ) -> Option<Place>
-    requires given { Given given_rules.now given_rows.now given_text.now marks.now }
-    requires inside { Inside rows.now (length text.now) }
-    requires stands { Stands rows.now root }
-    requires settling { rule_type ≡ Atomic → Settling given_rules.now given_rows.now given_text.now marks.now rows.now text.now root }
+    requires given { Given given.now.rules.now given.now.rows.now given.now.text.now marks.now }
+    requires inside { Inside table.now.rows.now (length table.now.text.now) }
+    requires stands { Stands table.now.rows.now root }
+    requires settling { rule_type ≡ Atomic → Settling given.now.rules.now given.now.rows.now given.now.text.now marks.now table.now.rows.now table.now.text.now root }
     requires room { Room p out.old lits.old }
-    ensures { (t : Table Span) (r : Expr Span) → Lent given_rules.now given_rows.now t → At rows.now root r → (rule_type ≡ Atomic → Settles (resolve_table given_text.now t) marks.now (resolve text.now r)) → Answer result p (skip_to (resolve_table given_text.now t) rule_type (resolve text.now r)) out.old out.new lits.old lits.new }
+    ensures { (t : Table Span) (r : Expr Span) → Lent given.now.rules.now given.now.rows.now t → At table.now.rows.now root r → (rule_type ≡ Atomic → Settles (resolve_table given.now.text.now t) marks.now (resolve table.now.text.now r)) → Answer result p (skip_to (resolve_table given.now.text.now t) rule_type (resolve table.now.text.now r)) out.old out.new lits.old lits.new }
 {
     if rule_type == ATOMIC {
-        skip_tree(
-            given_rules,
-            given_rows,
-            given_text,
-            marks,
-            rows,
-            text,
-            root,
-            out,
-            lits,
-            p,
-        )
+        skip_tree(given, marks, table, root, out, lits, p)
     } else {
-        writing::copy(rows, text, root, out, lits, p)
+        writing::copy(table, root, out, lits, p)
     }
 }

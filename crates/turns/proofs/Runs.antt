@@ -53,6 +53,17 @@ moved t u {rules} {text} {m} {n} {q} {os} {o} {s} c f e g d =
 listed_names : (t : Table Bytes) → names (listed t) ≡ names t
 listed_names t = simp each_names
 
+-- whether one of the tables up to a step is too large
+module _ (t : Table Bytes) where
+  abbrev pub large3 : Bool
+  large3 = (too_large (rotated t) || too_large (skipped t)) || too_large (unrolled t)
+
+  abbrev pub large5 : Bool
+  large5 = (large3 || too_large (concatenated t)) || too_large (factored t)
+
+  abbrev pub large6 : Bool
+  large6 = large5 || too_large (listed t)
+
 -- a table that is lent and ready
 module _ {rules rows : List ℕ} {text : Bytes} {marks : List ℕ} (r : Ready rules rows text marks) where
   pub ready_lent : Lent r.given.table rules rows
@@ -97,53 +108,82 @@ module _ {rules rows : List ℕ} {text : Bytes} {marks : List ℕ} (r : Ready ru
     pub restored_count : length rules ≡ length (restored t0) * rule_width
     restored_count = count_after 7 (length rules) (listed t0) (listed t0) listed_count
 
-    -- step 1
-    pub first_passing : {os o s : List ℕ} → Sized os o s → Passing 1 rules rows text marks rules rows text os o s
-    first_passing z =
-        record {
-          given = t;
-          lent = l;
-          table = t;
-          holds = ready_holds;
-          fits = λ _. sized_room t0 z ready_few (r.fits t ready_given);
-          asks = asks_free rules rows text marks rows text (λ e. omega (arith, e)) (λ e. omega (arith, e)) (λ e. omega (arith, e)) t;
-        }
-
-    pub first_rules : {os o s : List ℕ} → Sized os o s → length rules ≤ length os
-    first_rules z = omega (arith, r.few, z.rules)
-
     pub first_stood : (a : Option Place) {os o s os' o' s' : List ℕ} → Sized os o s → Sized os' o' s' → ((gs ts : Table Span) → Lent gs rules rows → Holds ts rules rows text → PassAnswer a (each (step_of 1 (resolve_table text gs)) (resolve_table text ts)) os o s os' o' s') → Stood a (too_large (rotated t0)) (rotated t0) os' o' s'
     first_stood a z z' h = pass_stood a (rotated t0) refl z z' (omega (arith, ready_few, each_length (step_of 1 t0) t0)) (h t t l ready_holds)
 
-    -- steps 2 and 3, 4 and 5, 6
-    abbrev stands : {a : Option Place} {large : Bool} (u : Table Bytes) {os o s os₂ o₂ s₂ : List ℕ} → length rules ≡ length u * rule_width → Works os o s os₂ o₂ s₂ → Stood a large u os o s → Stands (length rules) a os o s os₂ o₂ s₂
-    stands u e z f = record { table = u; large = _; stood = f; count = e; works = z }
+  -- step 1
+  pub first_passing : {os o s : List ℕ} → Sized os o s → Passing 1 rules rows text marks rules rows text os o s
+  first_passing z =
+      let t = r.given.table in
+      record {
+        given = t;
+        lent = ready_lent;
+        table = t;
+        holds = ready_holds t ready_lent;
+        fits = λ _. sized_room (resolve_table text t) z (ready_few t ready_lent) (r.fits t r.given.lent);
+        asks = asks_free rules rows text marks rows text (λ e. omega (arith, e)) (λ e. omega (arith, e)) (λ e. omega (arith, e)) t;
+      }
 
-    pub skip_turns : {a : Option Place} {large : Bool} {os o s os₂ o₂ s₂ : List ℕ} → Works os o s os₂ o₂ s₂ → Stood a large (rotated t0) os o s → Turns 2 3 rules rows text marks (length rules) a os o s os₂ o₂ s₂
-    skip_turns z f =
-        let t2 : Table Bytes = skipped t0 in
-        record {
-          first = record { given = t; lent = l; stands = stands (rotated t0) rotated_count z f; asks = asks_two r.given t l (r.lists t ready_given) };
-          asks₂ = asks_three rules rows text marks (words_of t2).rows (table_text t2) t2 (zeros_two t0 (rotated t0) (zeros_one t0 t0 (r.zeros t ready_given)));
-        }
+  pub first_rules : {os o s : List ℕ} → Sized os o s → length rules ≤ length os
+  first_rules z = omega (arith, r.few, z.rules)
 
-    abbrev free_turning : {step : ℕ} {a : Option Place} {large : Bool} (u : Table Bytes) {os o s os₂ o₂ s₂ : List ℕ} → (step ≡ 2 → ⊥) → (step ≡ 3 → ⊥) → (step ≡ 7 → ⊥) → length rules ≡ length u * rule_width → Works os o s os₂ o₂ s₂ → Stood a large u os o s → Turning step rules rows text marks (length rules) a os o s os₂ o₂ s₂
-    free_turning u x y v e z f = record { given = t; lent = l; stands = stands u e z f; asks = asks_free rules rows text marks (words_of u).rows (table_text u) x y v (packed_from 0 u) }
+  -- what stands after steps, for every table of these words
+  pub record Came (P : Table Bytes → Type 0) (os o s os₂ o₂ s₂ : List ℕ) : Type 0 where
+    pub works : Works os o s os₂ o₂ s₂
+    pub stood : (t : Table Span) → Lent t rules rows → P (resolve_table text t)
 
-    pub join_turns : {a : Option Place} {large : Bool} {os o s os₂ o₂ s₂ : List ℕ} → Works os o s os₂ o₂ s₂ → Stood a large (unrolled t0) os o s → Turns 4 5 rules rows text marks (length rules) a os o s os₂ o₂ s₂
-    join_turns z f =
-        let t4 : Table Bytes = concatenated t0 in
-        record {
-          first = free_turning (unrolled t0) (λ e. omega (arith, e)) (λ e. omega (arith, e)) (λ e. omega (arith, e)) unrolled_count z f;
-          asks₂ = asks_free rules rows text marks (words_of t4).rows (table_text t4) (λ e. omega (arith, e)) (λ e. omega (arith, e)) (λ e. omega (arith, e)) (packed_from 0 t4);
-        }
+  module _ (a : Option Place) (os o s : List ℕ) where
+    abbrev pub After1 : (os₂ o₂ s₂ : List ℕ) → Type 0
+    After1 = Came (λ t. Stood a (too_large (rotated t)) (rotated t) os o s) os o s
 
-    pub list_turning : {a : Option Place} {large : Bool} {os o s os₂ o₂ s₂ : List ℕ} → Works os o s os₂ o₂ s₂ → Stood a large (factored t0) os o s → Turning 6 rules rows text marks (length rules) a os o s os₂ o₂ s₂
-    list_turning z f = free_turning (factored t0) (λ e. omega (arith, e)) (λ e. omega (arith, e)) (λ e. omega (arith, e)) factored_count z f
+    abbrev pub After6 : (os₂ o₂ s₂ : List ℕ) → Type 0
+    After6 = Came (λ t. Stood a (large6 t) (listed t) os o s) os o s
 
-    -- step 7: the marks index the names of every table, since no step changes a name
-    pub restoring : {a : Option Place} {large : Bool} {os o s os₂ o₂ s₂ : List ℕ} → Works os o s os₂ o₂ s₂ → Stood a large (listed t0) os o s → Restoring marks (length rules) a os o s os₂ o₂ s₂
-    restoring z f = record { stands = stands (listed t0) listed_count z f; index = λ q e. moved t (listed t0) listed_count (f.front q e) l.rules (listed_names t0) r.given.index }
+  module _ (a : Two) (os o s : List ℕ) where
+    abbrev pub After3 : (os₂ o₂ s₂ : List ℕ) → Type 0
+    After3 = Came (λ t. Paired a (too_large (rotated t)) (skipped t) (unrolled t) os o s) os o s
+
+    abbrev pub After5 : (os₂ o₂ s₂ : List ℕ) → Type 0
+    After5 = Came (λ t. Paired a (large3 t) (concatenated t) (factored t) os o s) os o s
+
+  -- steps 2 and 3, 4 and 5, 6, put on the table that is lent
+  abbrev base : Table Bytes
+  base = resolve_table text r.given.table
+
+  abbrev stands : {a : Option Place} {large : Bool} (u : Table Bytes) {os o s os₂ o₂ s₂ : List ℕ} → length rules ≡ length u * rule_width → Works os o s os₂ o₂ s₂ → Stood a large u os o s → Stands (length rules) a os o s os₂ o₂ s₂
+  stands u e z f = record { table = u; large = _; stood = f; count = e; works = z }
+
+  pub skip_turns : {a : Option Place} {os o s os₂ o₂ s₂ : List ℕ} → After1 a os o s os₂ o₂ s₂ → Turns 2 3 rules rows text marks (length rules) a os o s os₂ o₂ s₂
+  skip_turns k =
+      let t = r.given.table in
+      let t2 : Table Bytes = skipped base in
+      record {
+        first = record { given = t; lent = ready_lent; stands = stands (rotated base) (rotated_count t ready_lent) k.works (k.stood t ready_lent); asks = asks_two r.given t ready_lent (r.lists t r.given.lent) };
+        asks₂ = asks_three rules rows text marks (words_of t2).rows (table_text t2) t2 (zeros_two base (rotated base) (zeros_one base base (r.zeros t r.given.lent)));
+      }
+
+  abbrev free_turning : {step : ℕ} {a : Option Place} {large : Bool} (u : Table Bytes) {os o s os₂ o₂ s₂ : List ℕ} → (step ≡ 2 → ⊥) → (step ≡ 3 → ⊥) → (step ≡ 7 → ⊥) → length rules ≡ length u * rule_width → Works os o s os₂ o₂ s₂ → Stood a large u os o s → Turning step rules rows text marks (length rules) a os o s os₂ o₂ s₂
+  free_turning u x y v e z f = record { given = r.given.table; lent = ready_lent; stands = stands u e z f; asks = asks_free rules rows text marks (words_of u).rows (table_text u) x y v (packed_from 0 u) }
+
+  pub join_turns : {a : Two} {os o s os₂ o₂ s₂ : List ℕ} → After3 a os o s os₂ o₂ s₂ → Turns 4 5 rules rows text marks (length rules) a.last os o s os₂ o₂ s₂
+  join_turns k =
+      let t = r.given.table in
+      let t4 : Table Bytes = concatenated base in
+      record {
+        first = free_turning (unrolled base) (λ e. omega (arith, e)) (λ e. omega (arith, e)) (λ e. omega (arith, e)) (unrolled_count t ready_lent) k.works (k.stood t ready_lent).stood;
+        asks₂ = asks_free rules rows text marks (words_of t4).rows (table_text t4) (λ e. omega (arith, e)) (λ e. omega (arith, e)) (λ e. omega (arith, e)) (packed_from 0 t4);
+      }
+
+  pub list_turning : {a : Two} {os o s os₂ o₂ s₂ : List ℕ} → After5 a os o s os₂ o₂ s₂ → Turning 6 rules rows text marks (length rules) a.last os o s os₂ o₂ s₂
+  list_turning k = let t = r.given.table in free_turning (factored base) (λ e. omega (arith, e)) (λ e. omega (arith, e)) (λ e. omega (arith, e)) (factored_count t ready_lent) k.works (k.stood t ready_lent).stood
+
+  -- step 7: the marks index the names of every table, since no step changes a name
+  pub restoring : {a : Option Place} {os o s os₂ o₂ s₂ : List ℕ} → After6 a os o s os₂ o₂ s₂ → Restoring marks (length rules) a os o s os₂ o₂ s₂
+  restoring k =
+      let t = r.given.table in
+      let f = k.stood t ready_lent in
+      let n = listed_count t ready_lent in
+      record { stands = stands (listed base) n k.works f; index = λ q e. moved t (listed base) n (f.front q e) ready_lent.rules (listed_names base) r.given.index }
 
 -- all seven
 nested : (a b c d e f g : Bool) → ((((((a || b) || c) || d) || e) || f) || g) ≡ (a || (b || (c || (d || (e || (f || (g || false)))))))
@@ -163,30 +203,20 @@ first_of false b h = refl
 pub seven_of_lem : {i j k l m n i' j' k' l' m' n' : ℕ} {w : Option Place} {y : Place} → i ≡ i' → j ≡ j' → k ≡ k' → l ≡ l' → m ≡ m' → n ≡ n' → w ≡ Some y → Some (record { rotated = i; skipped = j; unrolled = k; concatenated = l; factored = m; listed = n; place = y }) ≡ seven_of i' j' k' l' m' n' w
 seven_of_lem a b c d e f g = rw (a, b, c, d, e, f, g) refl
 
--- whether one of the tables up to a step is too large
 module _ (t : Table Bytes) where
-  abbrev pub large3 : Bool
-  large3 = (too_large (rotated t) || too_large (skipped t)) || too_large (unrolled t)
-
-  abbrev pub large5 : Bool
-  large5 = (large3 || too_large (concatenated t)) || too_large (factored t)
-
-  abbrev pub large6 : Bool
-  large6 = large5 || too_large (listed t)
-
-  pub seven_answer : {x : Option Seven} (p : Option Place) {q r : Two} (v w : Option Place) {os₁ o₁ s₁ os₃ o₃ s₃ os₅ o₅ s₅ os₆ o₆ s₆ os o s : List ℕ} → x ≡ seven_of (rows_of p) (rows_of q.first) (rows_of q.last) (rows_of r.first) (rows_of r.last) (rows_of v) w → Stood p (too_large (rotated t)) (rotated t) os₁ o₁ s₁ → Paired q (too_large (rotated t)) (skipped t) (unrolled t) os₃ o₃ s₃ → Paired r large3 (concatenated t) (factored t) os₅ o₅ s₅ → Stood v large6 (listed t) os₆ o₆ s₆ → Stood w (large6 || too_large (restored t)) (restored t) os o s → SevenAnswer x (all_seven t) os o s
+  pub seven_answer : {x : Option Seven} (p : Option Place) {q r : Two} (v w : Option Place) {os₁ o₁ s₁ os₃ o₃ s₃ os₅ o₅ s₅ os₆ o₆ s₆ os o s : List ℕ} → x ≡ seven_of (rows_of p) (rows_of q.first) (rows_of q.last) (rows_of r.first) (rows_of r.last) (rows_of v) w → Stood p (too_large (rotated t)) (rotated t) os₁ o₁ s₁ → Paired q (too_large (rotated t)) (skipped t) (unrolled t) os₃ o₃ s₃ → Paired r (large3 t) (concatenated t) (factored t) os₅ o₅ s₅ → Stood v (large6 t) (listed t) os₆ o₆ s₆ → Stood w ((large6 t) || too_large (restored t)) (restored t) os o s → SevenAnswer x (all_seven t) os o s
   seven_answer p {q} {r} v w {os = os} {o = o} {s = s} e a b c d f = subst (λ (y : Option Seven). SevenAnswer y (all_seven t) os o s) (sym e) (go w f)
     where
-      all : (large6 || too_large (restored t)) ≡ any too_large (all_seven t)
+      all : ((large6 t) || too_large (restored t)) ≡ any too_large (all_seven t)
       all = nested (too_large (rotated t)) (too_large (skipped t)) (too_large (unrolled t)) (too_large (concatenated t)) (too_large (factored t)) (too_large (listed t)) (too_large (restored t))
 
-      go : (w : Option Place) → Stood w (large6 || too_large (restored t)) (restored t) os o s → SevenAnswer (seven_of (rows_of p) (rows_of q.first) (rows_of q.last) (rows_of r.first) (rows_of r.last) (rows_of v) w) (all_seven t) os o s
+      go : (w : Option Place) → Stood w ((large6 t) || too_large (restored t)) (restored t) os o s → SevenAnswer (seven_of (rows_of p) (rows_of q.first) (rows_of q.last) (rows_of r.first) (rows_of r.last) (rows_of v) w) (all_seven t) os o s
       go (Some y) f =
-          let l7 : (large6 || too_large (restored t)) ≡ false = f.fits y refl in
-          let l6 : large6 ≡ false = first_of large6 _ l7 in
-          let l5 : large5 ≡ false = first_of large5 _ l6 in
-          let l4 : (large3 || too_large (concatenated t)) ≡ false = first_of (large3 || too_large (concatenated t)) _ l5 in
-          let l3 : large3 ≡ false = first_of large3 _ l4 in
+          let l7 : ((large6 t) || too_large (restored t)) ≡ false = f.fits y refl in
+          let l6 : (large6 t) ≡ false = first_of (large6 t) _ l7 in
+          let l5 : (large5 t) ≡ false = first_of (large5 t) _ l6 in
+          let l4 : ((large3 t) || too_large (concatenated t)) ≡ false = first_of ((large3 t) || too_large (concatenated t)) _ l5 in
+          let l3 : (large3 t) ≡ false = first_of (large3 t) _ l4 in
           let l2 : (too_large (rotated t) || too_large (skipped t)) ≡ false = first_of (too_large (rotated t) || too_large (skipped t)) _ l3 in
           let h1 : rows_of p ≡ row_count (rotated t) = stood_rows p a (first_of (too_large (rotated t)) _ l2) in
           let h2 : rows_of q.first ≡ row_count (skipped t) = b.rows l2 in

@@ -18,7 +18,7 @@ use Rattle.writing.specs.Writes.{Areas}
 use Rattle.writing.specs.declared.Place.{Place}
 use Rattle.passes.specs.Passes.{step_of, Front, TableFits, PassAnswer}
 use Rattle.passes.proofs.Tables.{each_length}
-use Rattle.turns.specs.Chain.{Sized, Stood, after, rows_of}
+use Rattle.turns.specs.Chain.{Sized, Works, Stood, after, rows_of}
 use Rattle.turns.proofs.Fronts.{front_within}
 
 pub sized_areas : {os o s : List ℕ} → Sized os o s → Areas o s
@@ -26,6 +26,9 @@ sized_areas z = record { words = omega (arith, z.rows); bytes = omega (arith, z.
 
 pub sized_same : {os o s os' o' s' : List ℕ} → length os' ≡ length os → length o' ≡ length o → length s' ≡ length s → Sized os o s → Sized os' o' s'
 sized_same a b c z = record { rules = a ∙ z.rules; rows = b ∙ z.rows; text = c ∙ z.text }
+
+pub works_same : {os o s os₂ o₂ s₂ os' o' s' os₂' o₂' s₂' : List ℕ} → length os' ≡ length os → length o' ≡ length o → length s' ≡ length s → length os₂' ≡ length os₂ → length o₂' ≡ length o₂ → length s₂' ≡ length s₂ → Works os o s os₂ o₂ s₂ → Works os' o' s' os₂' o₂' s₂'
+works_same a b c d e f w = record { one = sized_same a b c w.one; other = sized_same d e f w.other }
 
 pub sized_room : {os o s : List ℕ} (t : Table Bytes) → Sized os o s → length t ≤ max_rules → too_large t ≡ false → TableFits t os o s
 unfolding too_large

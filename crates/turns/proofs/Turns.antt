@@ -1,6 +1,6 @@
 -- A turn is a pass over the parts that hold the packed table. Assumes nothing.
 use Rattle.std.specs.Prelude.{Option, Some}
-use mathlib.Core.Path.{◌≡◌, sym, ap, ◌∙◌, subst}
+use mathlib.Core.Path.{◌≡◌, refl, sym, ap, ◌∙◌, subst}
 use mathlib.Core.Bool.{Bool, ◌||◌}
 use mathlib.Core.List.{List}
 use Prim.Native.Nat.{ℕ, ◌*◌, ◌/◌, ◌^◌, ◌≤◌, ◌<◌}
@@ -22,7 +22,7 @@ use Rattle.passes.specs.Passes.{AsksAll, Lent, Holds, Held, Front, Passing, Tabl
 use Rattle.passes.proofs.Tables.{each_length}
 use Rattle.turns.specs.Chain.{Sized, Stood, Stands, Turning, after}
 use Rattle.turns.proofs.Fronts.{holds_front, front_is, front_within}
-use Rattle.turns.proofs.Sizes.{sized_room, front_few, front_fine, front_stood, pass_stood}
+use Rattle.turns.proofs.Sizes.{sized_same, sized_room, front_few, front_fine, front_stood, pass_stood}
 use Rattle.turns.proofs.Asking.{asks_seven}
 
 pub holds_part : {p : Place} (t : Table Bytes) {os o s : List ℕ} (n : ℕ) → n ≡ length t * rule_width → Front p t os o s → Holds (packed_from 0 t) (take n os) (take (p.rows * row_width) o) (take p.text s)
@@ -99,9 +99,9 @@ turn_passing {step} {rs₀} {ws₀} {text₀} {marks} {n} {a} {os} {o} {s} k {p}
     let f : Front p t os o s = k.stands.stood.front p e in
     stands_passing k.stands e k.given k.lent (subst (λ (x : Bytes). AsksAll step rs₀ ws₀ text₀ marks (take (p.rows * row_width) o) x (packed_from 0 t)) (sym f.bytes) (subst (λ (w : List ℕ). AsksAll step rs₀ ws₀ text₀ marks w (table_text t) (packed_from 0 t)) (sym f.row_words_lem) k.asks))
 
--- the other work table may be another one, of full size
-pub stands_other : {n : ℕ} {a : Option Place} {os o s os₂ o₂ s₂ os₃ o₃ s₃ : List ℕ} → Stands n a os o s os₂ o₂ s₂ → Sized os₃ o₃ s₃ → Stands n a os o s os₃ o₃ s₃
-stands_other k z = record { table = k.table; large = k.large; stood = k.stood; count = k.count; works = record { one = k.works.one; other = z } }
+-- the first area of the other work table may be another one, as long
+pub stands_other : {n : ℕ} {a : Option Place} {os o s os₂ o₂ s₂ os₃ : List ℕ} → Stands n a os o s os₂ o₂ s₂ → length os₃ ≡ length os₂ → Stands n a os o s os₃ o₂ s₂
+stands_other k e = record { table = k.table; large = k.large; stood = k.stood; count = k.count; works = record { one = k.works.one; other = sized_same e refl refl k.works.other } }
 
 -- the table t, of n words of rules, stands up to p in front of three areas of full size
 module _ {a : Option Place} {p : Place} (e : a ≡ Some p) {t : Table Bytes} {large : Bool} {os o s : List ℕ} (h : Stood a large t os o s) {n : ℕ} (c : n ≡ length t * rule_width) where

@@ -11,7 +11,7 @@ ghost use Rattle.passes.specs.Passes.{Lent};
 ghost use Rattle.admission.specs.Ready.{Ready};
 ghost use Rattle.turns.specs.Chain.{after, rows_of, seven_of, Works, Stood, Turning, Turns, Paired, Restoring, SevenAnswer, all_seven};
 
-use grammar::{ROW_WIDTH, RULE_WIDTH};
+use grammar::{LentTable, ROW_WIDTH, RULE_WIDTH};
 use passes::{
     CONCATENATE_STEP, FACTOR_STEP, LIST_STEP, RESTORE_STEP, ROTATE_STEP, SKIP_STEP, UNROLL_STEP,
 };
@@ -72,9 +72,7 @@ fn joined(
 // the rows show that the step leaves it so, which is cheaper than rule by rule. After a step that found no room there is nothing to do.
 fn turn(
     step: u32,
-    heads0: &[u32],
-    rows0: &[u32],
-    text0: &[u8],
+    given: &LentTable,
     marks: &[u32],
     count: usize,
     last: Option<Place>,
@@ -85,8 +83,8 @@ fn turn(
     rows2: &mut [u32],
     text2: &mut [u8],
 ) -> Option<Place>
-    requires { Turning step heads0.now rows0.now text0.now marks.now count last heads.now rows.now text.now heads2.old rows2.old text2.old }
-    ensures { ((gs : Table Span) (t : Table Bytes) (large : Bool) → Lent gs heads0.now rows0.now → Stood last large t heads.now rows.now text.now → count ≡ length t * rule_width → let u : Table Bytes = after step (resolve_table text0.now gs) t in Stood result (large || too_large u) u heads2.new rows2.new text2.new) }
+    requires { Turning step given.now.rules.now given.now.rows.now given.now.text.now marks.now count last heads.now rows.now text.now heads2.old rows2.old text2.old }
+    ensures { ((gs : Table Span) (t : Table Bytes) (large : Bool) → Lent gs given.now.rules.now given.now.rows.now → Stood last large t heads.now rows.now text.now → count ≡ length t * rule_width → let u : Table Bytes = after step (resolve_table given.now.text.now gs) t in Stood result (large || too_large u) u heads2.new rows2.new text2.new) }
 {
     let p = last?;
     let words = p.rows * ROW_WIDTH;
@@ -94,23 +92,24 @@ fn turn(
     let h = &heads[..count];
     let r = &rows[..words];
     let t = &text[..bytes];
-    let stay = passes::first_fired(step, h, r, t, 0, 0);
+    let front = LentTable {
+        rules: h,
+        rows: r,
+        text: t,
+    };
+    let stay = passes::first_fired(step, &front, 0, 0);
     if stay == count / RULE_WIDTH {
         packing::put_out(count, p, heads, rows, text, heads2, rows2, text2);
         return Some(p);
     }
-    passes::pass(
-        step, heads0, rows0, text0, marks, h, r, t, heads2, rows2, text2, stay,
-    )
+    passes::pass(step, given, marks, &front, heads2, rows2, text2, stay)
 }
 
 // Two steps, from the table in front of one work table to the other and back.
 fn two_steps(
     step: u32,
     next: u32,
-    heads0: &[u32],
-    rows0: &[u32],
-    text0: &[u8],
+    given: &LentTable,
     marks: &[u32],
     count: usize,
     last: Option<Place>,
@@ -121,14 +120,14 @@ fn two_steps(
     rows2: &mut [u32],
     text2: &mut [u8],
 ) -> Two
-    requires { Turns step next heads0.now rows0.now text0.now marks.now count last heads.old rows.old text.old heads2.old rows2.old text2.old }
-    ensures { ((gs : Table Span) (t : Table Bytes) (large : Bool) → Lent gs heads0.now rows0.now → Stood last large t heads.old rows.old text.old → count ≡ length t * rule_width → let look : Table Bytes = resolve_table text0.now gs in Paired result large (after step look t) (after next look (after step look t)) heads.new rows.new text.new) }
+    requires { Turns step next given.now.rules.now given.now.rows.now given.now.text.now marks.now count last heads.old rows.old text.old heads2.old rows2.old text2.old }
+    ensures { ((gs : Table Span) (t : Table Bytes) (large : Bool) → Lent gs given.now.rules.now given.now.rows.now → Stood last large t heads.old rows.old text.old → count ≡ length t * rule_width → let look : Table Bytes = resolve_table given.now.text.now gs in Paired result large (after step look t) (after next look (after step look t)) heads.new rows.new text.new) }
 {
     let q = turn(
-        step, heads0, rows0, text0, marks, count, last, heads, rows, text, heads2, rows2, text2,
+        step, given, marks, count, last, heads, rows, text, heads2, rows2, text2,
     );
     let r = turn(
-        next, heads0, rows0, text0, marks, count, q, heads2, rows2, text2, heads, rows, text,
+        next, given, marks, count, q, heads2, rows2, text2, heads, rows, text,
     );
     Two { first: q, last: r }
 }
@@ -155,33 +154,23 @@ fn restore(
     let h = &heads[..count];
     let r = &rows[..words];
     let t = &text[..bytes];
-    if restorer::still(r, t) {
+    let front = LentTable {
+        rules: h,
+        rows: r,
+        text: t,
+    };
+    if restorer::still(&front) {
         packing::put_out(count, p, heads, rows, text, heads2, rows2, text2);
         return Some(p);
     }
     // what step 7 writes to is free until it begins
-    restorer::settle(h, r, t, marks, heads2);
-    passes::pass(
-        RESTORE_STEP,
-        h,
-        r,
-        t,
-        marks,
-        h,
-        r,
-        t,
-        heads2,
-        rows2,
-        text2,
-        0,
-    )
+    restorer::settle(&front, marks, heads2);
+    passes::pass(RESTORE_STEP, &front, marks, &front, heads2, rows2, text2, 0)
 }
 
 // All seven, from the lent table to the first work table.
 pub fn all_steps(
-    rules: &[u32],
-    rows: &[u32],
-    text: &[u8],
+    table: &LentTable,
     marks: &mut [u32],
     a_rules: &mut [u32],
     a_rows: &mut [u32],
@@ -190,33 +179,27 @@ pub fn all_steps(
     b_rows: &mut [u32],
     b_text: &mut [u8],
 ) -> Option<Seven>
-    requires ready { Ready rules.now rows.now text.now marks.old }
+    requires ready { Ready table.now.rules.now table.now.rows.now table.now.text.now marks.old }
     requires works { Works a_rules.old a_rows.old a_text.old b_rules.old b_rows.old b_text.old }
-    ensures { (t : Table Span) → Lent t rules.now rows.now → SevenAnswer result (all_seven (resolve_table text.now t)) a_rules.new a_rows.new a_text.new }
+    ensures { (t : Table Span) → Lent t table.now.rules.now table.now.rows.now → SevenAnswer result (all_seven (resolve_table table.now.text.now t)) a_rules.new a_rows.new a_text.new }
 {
     let settled = &marks[..];
-    let stay = passes::first_fired(ROTATE_STEP, rules, rows, text, 0, 0);
+    let stay = passes::first_fired(ROTATE_STEP, table, 0, 0);
     let p = passes::pass(
         ROTATE_STEP,
-        rules,
-        rows,
-        text,
+        table,
         settled,
-        rules,
-        rows,
-        text,
+        &*table,
         a_rules,
         a_rows,
         a_text,
         stay,
     );
-    let count = rules.len();
+    let count = table.rules.len();
     let q = two_steps(
         SKIP_STEP,
         UNROLL_STEP,
-        rules,
-        rows,
-        text,
+        table,
         settled,
         count,
         p,
@@ -231,9 +214,7 @@ pub fn all_steps(
     let r = two_steps(
         CONCATENATE_STEP,
         FACTOR_STEP,
-        rules,
-        rows,
-        text,
+        table,
         settled,
         count,
         unrolled,
@@ -246,8 +227,8 @@ pub fn all_steps(
     );
     let factored = r.last;
     let s = turn(
-        LIST_STEP, rules, rows, text, settled, count, factored, a_rules, a_rows, a_text, b_rules,
-        b_rows, b_text,
+        LIST_STEP, table, settled, count, factored, a_rules, a_rows, a_text, b_rules, b_rows,
+        b_text,
     );
     let t = restore(
         marks, count, s, b_rules, b_rows, b_text, a_rules, a_rows, a_text,

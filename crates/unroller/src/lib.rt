@@ -16,7 +16,7 @@ ghost use Rattle.unroller.specs.Items.{Counted, item_of, items_of, count_of, ite
 ghost use Rattle.unroller.specs.Climbs.{RunOver, Standing, ClimbedAnswer};
 ghost use Rattle.unroller.specs.Copies.{moved_row, moved, Movable, Source, Copyable, Repeatable, Finishable, Layable, Spreadable, Headed, Laid};
 
-use grammar::{OPT, REP, REP_EXACT, REP_MAX, REP_MIN, REP_ONCE, ROW_WIDTH, SEQ, SKIP};
+use grammar::{LentTable, OPT, REP, REP_EXACT, REP_MAX, REP_MIN, REP_ONCE, ROW_WIDTH, SEQ, SKIP};
 use rows::Shape;
 use writing::Place;
 
@@ -307,31 +307,38 @@ fn climb(
 // Writes the subtree of row `root`, which has not one child, unrolled node by node, at p.
 #[cycle(bottom_unroll)]
 fn bottom(
-    rows: &[u32],
-    text: &[u8],
+    table: &LentTable,
     root: usize,
     out: &mut [u32],
     lits: &mut [u8],
     p: Place,
 ) -> Option<Place>
-    requires inside { Inside rows.now (length text.now) }
-    requires counted { Counted rows.now root }
+    requires inside { Inside table.now.rows.now (length table.now.text.now) }
+    requires counted { Counted table.now.rows.now root }
     requires room { Room p out.old lits.old }
-    requires fact { shape_of (kind_at rows.now root) ≡ One → ⊥ }
-    ensures { (r : Expr Span) → At rows.now root r → Answer result p (unroll (resolve text.now r)) out.old out.new lits.old lits.new }
+    requires fact { shape_of (kind_at table.now.rows.now root) ≡ One → ⊥ }
+    ensures { (r : Expr Span) → At table.now.rows.now root r → Answer result p (unroll (resolve table.now.text.now r)) out.old out.new lits.old lits.new }
 {
-    let row = rows::row_at(rows, root)?;
+    let row = rows::row_at(table.rows, root)?;
     match rows::shape_of(row.kind) {
         Shape::Lit => {
-            writing::put_lit(text, row.x as usize, row.y as usize, row.kind, out, lits, p)
+            writing::put_lit(
+                table.text,
+                row.x as usize,
+                row.y as usize,
+                row.kind,
+                out,
+                lits,
+                p,
+            )
         }
         Shape::Num => writing::put_row(out, p, row.kind, row.x, row.y, 1),
-        Shape::Skips => writing::copy(rows, text, root, out, lits, p),
+        Shape::Skips => writing::copy(table, root, out, lits, p),
         Shape::One => None,
         Shape::Two => {
-            let left = rows::left_of(rows, root);
-            let q = unroll(rows, text, left, out, lits, p)?;
-            let s = unroll(rows, text, root - 1, out, lits, q)?;
+            let left = rows::left_of(table.rows, root);
+            let q = unroll(table, left, out, lits, p)?;
+            let s = unroll(table, root - 1, out, lits, q)?;
             writing::put_over(out, p, s, row.kind, row.x, row.y)
         }
     }
@@ -340,20 +347,19 @@ fn bottom(
 // Writes the subtree of row `root`, unrolled node by node, at p.
 #[cycle(bottom_unroll)]
 pub fn unroll(
-    rows: &[u32],
-    text: &[u8],
+    table: &LentTable,
     root: usize,
     out: &mut [u32],
     lits: &mut [u8],
     p: Place,
 ) -> Option<Place>
-    requires inside { Inside rows.now (length text.now) }
-    requires counted { Counted rows.now root }
+    requires inside { Inside table.now.rows.now (length table.now.text.now) }
+    requires counted { Counted table.now.rows.now root }
     requires room { Room p out.old lits.old }
-    ensures { (r : Expr Span) → At rows.now root r → Answer result p (unroll (resolve text.now r)) out.old out.new lits.old lits.new }
+    ensures { (r : Expr Span) → At table.now.rows.now root r → Answer result p (unroll (resolve table.now.text.now r)) out.old out.new lits.old lits.new }
 {
     // no call for each row of a run: a host's stack is short
-    let base = chains::below(rows, root);
-    let q = bottom(rows, text, base, out, lits, p)?;
-    climb(rows, base, root, out, lits, p, q)
+    let base = chains::below(table.rows, root);
+    let q = bottom(table, base, out, lits, p)?;
+    climb(table.rows, base, root, out, lits, p, q)
 }

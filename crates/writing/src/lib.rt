@@ -11,7 +11,7 @@ ghost use Rattle.writing.specs.Writes.{stored, Areas, Room, PutAnswer, RowAnswer
 ghost use Rattle.writing.specs.Keeps.{KeptAnswer, Ready};
 ghost use Rattle.writing.specs.Copies.{run_text, run_words, Runs, Pending, RanAnswer, MovedAnswer};
 
-use grammar::{ROW_WIDTH, SIZE, X, Y};
+use grammar::{LentTable, ROW_WIDTH, SIZE, X, Y};
 use rows::Shape;
 
 // Where the next row and the next byte of text go.
@@ -143,30 +143,29 @@ fn next_lit(text: &[u8], x: usize, n: usize, lits: &mut [u8], g: Run) -> Option<
 
 // Writes row i of a table as row j, its literal packed after the run.
 fn copy_row(
-    rows: &[u32],
-    text: &[u8],
+    table: &LentTable,
     i: usize,
     out: &mut [u32],
     j: usize,
     lits: &mut [u8],
     g: Run,
 ) -> Option<Run>
-    requires i_in_bounds { i < length rows.now / row_width }
+    requires i_in_bounds { i < length table.now.rows.now / row_width }
     requires j_in_bounds { j < length out.old / row_width }
-    requires inside { Inside rows.now (length text.now) }
-    requires runs { Runs g text.now lits.old }
+    requires inside { Inside table.now.rows.now (length table.now.text.now) }
+    requires runs { Runs g table.now.text.now lits.old }
     requires lits_len_bound { length lits.old < 2 ^ 32 }
-    ensures { (o : ℕ) (bs t : List ℕ) → Pending g o text.now bs t lits.old → MovedAnswer result o text.now rows.now i j bs out.old out.new t lits.new }
+    ensures { (o : ℕ) (bs t : List ℕ) → Pending g o table.now.text.now bs t lits.old → MovedAnswer result o table.now.text.now table.now.rows.now i j bs out.old out.new t lits.new }
 {
     let from = i * ROW_WIDTH;
     let to = j * ROW_WIDTH;
-    let kind = rows[from];
-    let x = rows[from + X];
-    let y = rows[from + Y];
-    set_words(out, to, kind, x, y, rows[from + SIZE]);
+    let kind = table.rows[from];
+    let x = table.rows[from + X];
+    let y = table.rows[from + Y];
+    set_words(out, to, kind, x, y, table.rows[from + SIZE]);
     if let Shape::Lit = rows::shape_of(kind) {
         let end = g.at + g.size;
-        let h = next_lit(text, x as usize, y as usize, lits, g)?;
+        let h = next_lit(table.text, x as usize, y as usize, lits, g)?;
         // the four words go as one, and a literal's offset after them
         set_offset(out, to, end as u32);
         Some(h)
@@ -177,18 +176,17 @@ fn copy_row(
 
 // Writes n rows of a table from row i on at p, their literals packed.
 fn copy_rows(
-    rows: &[u32],
-    text: &[u8],
+    table: &LentTable,
     i: usize,
     n: usize,
     out: &mut [u32],
     lits: &mut [u8],
     p: Place,
 ) -> Option<Place>
-    requires n_in_bounds { i + n ≤ length rows.now / row_width }
-    requires inside { Inside rows.now (length text.now) }
+    requires n_in_bounds { i + n ≤ length table.now.rows.now / row_width }
+    requires inside { Inside table.now.rows.now (length table.now.text.now) }
     requires room { Room p out.old lits.old }
-    ensures { PutAnswer result p n (run_words p.text text.now rows.now i n) (run_text text.now rows.now i n) out.old out.new lits.old lits.new }
+    ensures { PutAnswer result p n (run_words p.text table.now.text.now table.now.rows.now i n) (run_text table.now.text.now table.now.rows.now i n) out.old out.new lits.old lits.new }
 {
     let first = p.rows;
     if out.len() / ROW_WIDTH - first < n {
@@ -200,9 +198,9 @@ fn copy_rows(
         at: p.text,
     };
     for k in 0..n {
-        g = copy_row(rows, text, i + k, out, first + k, lits, g)?;
+        g = copy_row(table, i + k, out, first + k, lits, g)?;
     }
-    copy_bytes(text, g.from, g.size, lits, g.at);
+    copy_bytes(table.text, g.from, g.size, lits, g.at);
     Some(Place {
         rows: first + n,
         text: g.at + g.size,
@@ -211,54 +209,51 @@ fn copy_rows(
 
 // Writes the k strings of a Skip that stand from row `first` on, their literals packed.
 pub fn copy_strs(
-    rows: &[u32],
-    text: &[u8],
+    table: &LentTable,
     first: usize,
     k: usize,
     out: &mut [u32],
     lits: &mut [u8],
     p: Place,
 ) -> Option<Place>
-    requires inside { Inside rows.now (length text.now) }
-    requires stand_strs { StandStrs rows.now first k }
+    requires inside { Inside table.now.rows.now (length table.now.text.now) }
+    requires stand_strs { StandStrs table.now.rows.now first k }
     requires room { Room p out.old lits.old }
-    ensures { (ss : List Span) → AtStrs rows.now first ss → length ss ≡ k → StrsAnswer result p (map (bytes_at text.now) ss) out.old out.new lits.old lits.new }
+    ensures { (ss : List Span) → AtStrs table.now.rows.now first ss → length ss ≡ k → StrsAnswer result p (map (bytes_at table.now.text.now) ss) out.old out.new lits.old lits.new }
 {
-    copy_rows(rows, text, first, k, out, lits, p)
+    copy_rows(table, first, k, out, lits, p)
 }
 
 // Writes the subtree of row `root` at p, its literals packed.
 pub fn copy(
-    rows: &[u32],
-    text: &[u8],
+    table: &LentTable,
     root: usize,
     out: &mut [u32],
     lits: &mut [u8],
     p: Place,
 ) -> Option<Place>
-    requires inside { Inside rows.now (length text.now) }
-    requires stands { Stands rows.now root }
+    requires inside { Inside table.now.rows.now (length table.now.text.now) }
+    requires stands { Stands table.now.rows.now root }
     requires room { Room p out.old lits.old }
-    ensures { (r : Expr Span) → At rows.now root r → Answer result p (resolve text.now r) out.old out.new lits.old lits.new }
+    ensures { (r : Expr Span) → At table.now.rows.now root r → Answer result p (resolve table.now.text.now r) out.old out.new lits.old lits.new }
 {
-    let row = rows::row_at(rows, root)?;
+    let row = rows::row_at(table.rows, root)?;
     let n = row.size as usize;
-    copy_rows(rows, text, root + 1 - n, n, out, lits, p)
+    copy_rows(table, root + 1 - n, n, out, lits, p)
 }
 
 // Writes the subtree of row `root`, which fits, at p, its literals packed.
 pub fn keep(
-    rows: &[u32],
-    text: &[u8],
+    table: &LentTable,
     root: usize,
     out: &mut [u32],
     lits: &mut [u8],
     p: Place,
 ) -> Option<Place>
-    requires inside { Inside rows.now (length text.now) }
-    requires ready { Ready rows.now text.now root p out.old lits.old }
+    requires inside { Inside table.now.rows.now (length table.now.text.now) }
+    requires ready { Ready table.now.rows.now table.now.text.now root p out.old lits.old }
     requires areas { Areas out.old lits.old }
-    ensures { (r : Expr Span) → At rows.now root r → KeptAnswer result p (resolve text.now r) out.old out.new lits.old lits.new }
+    ensures { (r : Expr Span) → At table.now.rows.now root r → KeptAnswer result p (resolve table.now.text.now r) out.old out.new lits.old lits.new }
 {
-    copy(rows, text, root, out, lits, p)
+    copy(table, root, out, lits, p)
 }

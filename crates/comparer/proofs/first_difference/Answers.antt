@@ -35,7 +35,7 @@ pub same_run-k-requires-clause-by_index_2 : goal.same_run-k-requires-clause-by_i
 same_run-k-requires-clause-by_index_2 c = let s = c.requires.stands_in_2 in λ k h. within_run _ _ s.at s.within (size_read s.at c.size_at-m.ensures) k (omega (arith, h))
 
 pub returns-then-n-m : goal.returns-then-n-m
-returns-then-n-m c = λ r s x z. sym (differ_nowhere c.args.text1.now c.args.text2.now x z (size_read x c.size_at-n.ensures) (size_read z c.size_at-m.ensures) c.same_run-k.ensures (omega arith) (omega arith) (omega arith) (omega arith) (omega arith))
+returns-then-n-m c = λ r s x z. sym (differ_nowhere c.args.one.now.text.now c.args.other.now.text.now x z (size_read x c.size_at-n.ensures) (size_read z c.size_at-m.ensures) c.same_run-k.ensures (omega arith) (omega arith) (omega arith) (omega arith) (omega arith))
 
 pub returns-else-k-least : goal.returns-else-k-least
-returns-else-k-least c = λ r s x z. sym (differ_there c.args.text1.now c.args.text2.now x z (size_read x c.size_at-n.ensures) (size_read z c.size_at-m.ensures) c.same_run-k.ensures (omega arith) (omega arith) (λ a b. omega arith) (λ a b. omega arith))
+returns-else-k-least c = λ r s x z. sym (differ_there c.args.one.now.text.now c.args.other.now.text.now x z (size_read x c.size_at-n.ensures) (size_read z c.size_at-m.ensures) c.same_run-k.ensures (omega arith) (omega arith) (λ a b. omega arith) (λ a b. omega arith))

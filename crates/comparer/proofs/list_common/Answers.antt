@@ -33,6 +33,6 @@ pub overflow_cast-k : goal.overflow_cast-k
 overflow_cast-k c = let r = c.requires in
     let x = side_rule r.side r.i_in_bounds.0 in
     let y = side_rule r.side_2 r.i_in_bounds.1 in
-    let t = c.args.left_text.now in
+    let t = c.args.left.now.text.now in
     let b = first_most (cells (resolve t x.rule.body)) _ c.in-Some.k (sym (c.in-Some.ensures x.rule.body y.rule.body (root_at r.side r.i_in_bounds.0 x.is) (root_at r.side_2 r.i_in_bounds.1 y.is))) in
     omega (arith, b, length_cells (resolve t x.rule.body), size_resolve t x.rule.body, side_most r.side r.i_in_bounds.0 x.is)

@@ -24,13 +24,13 @@ loop-i-preserved c = let l = c.loop-i in
     let o = c.list_rule-n in
     let x = side_rule c.requires.side {i = l.i} (omega (arith, t)) in
     let d = o.ensures x.rule c.requires.side_2.table x.is c.requires.side_2.stands in (
-      omega (arith, v.0, d.count, entries_most l.i (resolve_rule c.args.left_text.now x.rule) (lookup 0 (resolve_table c.args.right_text.now c.requires.side_2.table) (bytes_at c.args.left_text.now x.rule.name))),
+      omega (arith, v.0, d.count, entries_most l.i (resolve_rule c.args.left.now.text.now x.rule) (lookup 0 (resolve_table c.args.right.now.text.now c.requires.side_2.table) (bytes_at c.args.left.now.text.now x.rule.name))),
       added_length d ∙ v.1,
       λ tt uu st su.
           let y = there tt l.i (omega (arith, t, rule_count tt, ap length st.heads)) in
-          rw (left_next c.args.left_text.now tt (resolve_table c.args.right_text.now uu) l.i y.rule y.is) (added_then (v.2 tt uu st su) (o.ensures y.rule uu (record { table = tt; stands = st; is = y.is }) su)),
+          rw (left_next c.args.left.now.text.now tt (resolve_table c.args.right.now.text.now uu) l.i y.rule y.is) (added_then (v.2 tt uu st su) (o.ensures y.rule uu (record { table = tt; stands = st; is = y.is }) su)),
     )
 
 pub returns : goal.returns
 returns c = let l = c.loop-i in
-    λ t u st su. subst (λ (x : Table Span). Added l.n 0 (left_entries 0 (resolve_table c.args.left_text.now x) (resolve_table c.args.right_text.now u)) c.args.list.now l.list) (take_all l.i t (omega (arith, c.loop-i-test.false, rule_count t, ap length st.heads))) (l.invariant.2 t u st su)
+    λ t u st su. subst (λ (x : Table Span). Added l.n 0 (left_entries 0 (resolve_table c.args.left.now.text.now x) (resolve_table c.args.right.now.text.now u)) c.args.list.now l.list) (take_all l.i t (omega (arith, c.loop-i-test.false, rule_count t, ap length st.heads))) (l.invariant.2 t u st su)

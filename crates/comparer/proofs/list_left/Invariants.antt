@@ -8,4 +8,4 @@ use Rattle.comparer.specs.Lists.{Standing, Added}
 use Rattle.comparer.proofs.list_left.Given as goal
 
 abbrev pub invariant-loop-i : goal.invariant-loop-i
-invariant-loop-i l = (l.n ≤ l.i * 2) × (length l.list ≡ length l.initial.list) × ((t u : Table Span) → Standing t l.left_rules l.left_rows → Standing u l.right_rules l.right_rows → Added l.n 0 (left_entries 0 (resolve_table l.left_text (take l.i t)) (resolve_table l.right_text u)) l.initial.list l.list)
+invariant-loop-i l = (l.n ≤ l.i * 2) × (length l.list ≡ length l.initial.list) × ((t u : Table Span) → Standing t l.left.rules.now l.left.rows.now → Standing u l.right.rules.now l.right.rows.now → Added l.n 0 (left_entries 0 (resolve_table l.left.text.now (take l.i t)) (resolve_table l.right.text.now u)) l.initial.list l.list)

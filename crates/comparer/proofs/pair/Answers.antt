@@ -8,7 +8,7 @@ use Rattle.comparer.proofs.pair.Goals as goal
 pub loop-i-init : goal.loop-i-init
 loop-i-init c = let m = c.args.right_marks.now in
     let r = c.requires.all_indexed in
-    (paired_none c.args.left_marks.now m c.forget.ensures r.long, kept_self _, kept_self _, kept_index (kept_forgotten m (length c.args.right_rules.now / rule_width) c.forget.ensures) r)
+    (paired_none c.args.left_marks.now m c.forget.ensures r.long, kept_self _, kept_self _, kept_index (kept_forgotten m (length c.args.right.now.rules.now / rule_width) c.forget.ensures) r)
 
 pub loop-i-preserved : goal.loop-i-preserved
 loop-i-preserved c = let v = c.loop-i.invariant in
@@ -21,4 +21,4 @@ loop-i-preserved c = let v = c.loop-i.invariant in
 
 pub returns-clause-kept : goal.returns-clause-kept
 returns-clause-kept c = let v = c.loop-i.invariant in
-    (v.1, kept_then (kept_forgotten c.args.right_marks.now (length c.args.right_rules.now / rule_width) c.forget.ensures) v.2)
+    (v.1, kept_then (kept_forgotten c.args.right_marks.now (length c.args.right.now.rules.now / rule_width) c.forget.ensures) v.2)

@@ -5,4 +5,4 @@ use Rattle.rows.specs.Rows.{cell_at}
 use Rattle.comparer.proofs.same_run.Given as goal
 
 abbrev pub invariant-loop-k : goal.invariant-loop-k
-invariant-loop-k l = (m : ℕ) → m < l.k → cell_at l.text1 l.rows1 (l.i + m) ≡ cell_at l.text2 l.rows2 (l.j + m)
+invariant-loop-k l = (m : ℕ) → m < l.k → cell_at l.one.text.now l.one.rows.now (l.i + m) ≡ cell_at l.other.text.now l.other.rows.now (l.j + m)

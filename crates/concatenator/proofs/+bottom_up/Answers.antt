@@ -15,7 +15,7 @@ pub forks-requires : goal.forks-requires
 forks-requires t c = base_stands c.requires.ready c.below-base.ensures
 
 pub returns-then-not-forks : goal.returns-then-not-forks
-returns-then-not-forks t c = λ r a. leaf_kept (concatenate Atomic) concat_un c.args.text.now (concat_leaf c.args.text.now) r (leaf_below _ r a (c.below-base.ensures r a) (tells_no c.if-not-forks.true c.forks.ensures)) c.keep.result _ _ _ _ _ (c.keep.ensures r a)
+returns-then-not-forks t c = λ r a. leaf_kept (concatenate Atomic) concat_un c.args.table.now.text.now (concat_leaf c.args.table.now.text.now) r (leaf_below _ r a (c.below-base.ensures r a) (tells_no c.if-not-forks.true c.forks.ensures)) c.keep.result _ _ _ _ _ (c.keep.ensures r a)
 
 pub left_of-left-requires-clause-stands : goal.left_of-left-requires-clause-stands
 left_of-left-requires-clause-stands t c = base_stands c.requires.ready c.below-base.ensures

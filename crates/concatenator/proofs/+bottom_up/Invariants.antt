@@ -3,4 +3,4 @@ use Rattle.rows.specs.Rows.{size_at}
 use Rattle.concatenator.proofs.+bottom_up.Given as goal
 
 abbrev pub decreases-bottom_up : goal.decreases-bottom_up
-decreases-bottom_up l = size_at l.rows.now l.root
+decreases-bottom_up l = size_at l.table.now.rows.now l.root

@@ -21,7 +21,7 @@ keep-requires-clause-ready t c =
 pub returns-in_default : goal.returns-in_default
 returns-in_default t c = λ e a.
     let n = less_parts _ (low e) c.in_default.is (c.tree_sides.ensures (low e) (base_tree _ c.base_of-base.ensures a)) in
-    leaf_kept (factored c.args.tight) (factored_un c.args.tight) c.args.text.now (factored_leaf c.args.tight c.args.text.now) e (less_two (low e) n) c.keep.result _ _ _ _ _ (c.keep.ensures e (a.one (less_one _ a n)))
+    leaf_kept (factored c.args.tight) (factored_un c.args.tight) c.args.table.now.text.now (factored_leaf c.args.tight c.args.table.now.text.now) e (less_two (low e) n) c.keep.result _ _ _ _ _ (c.keep.ensures e (a.one (less_one _ a n)))
 
 pub plan_of-plan-requires-clause-stands : goal.plan_of-plan-requires-clause-stands
 plan_of-plan-requires-clause-stands t c =

@@ -23,7 +23,7 @@ pub returns-then-kind_at-ne-SEQ-2 : goal.returns-then-kind_at-ne-SEQ-2
 returns-then-kind_at-ne-SEQ-2 c = λ e x a.
     let v = sides_at Choice a c.requires.i_value c.left_of-left.ensures in
     choice_idle _ _ v.is
-    (plain_other c.args.tight c.args.rows.now c.args.text.now v.left v.right (two_none _ 8 (found_row _ _ (root v.at_left).inside) v.at_left (λ k. c.if-kind_at-ne-SEQ.true (c.kind_at.ensures ∙ k)))
+    (plain_other c.args.tight c.args.table.now.rows.now c.args.table.now.text.now v.left v.right (two_none _ 8 (found_row _ _ (root v.at_left).inside) v.at_left (λ k. c.if-kind_at-ne-SEQ.true (c.kind_at.ensures ∙ k)))
     (two_none _ 8 (found_row _ _ (root v.at_right).inside) v.at_right (λ k. c.if-kind_at-ne-SEQ-2.true (c.kind_at-then-kind_at-ne-SEQ.ensures ∙ k))))
 
 pub case_of-requires-clause-stands : goal.case_of-requires-clause-stands

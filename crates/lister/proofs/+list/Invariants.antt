@@ -3,4 +3,4 @@ use Rattle.rows.specs.Rows.{size_at}
 use Rattle.lister.proofs.+list.Given as goal
 
 abbrev pub decreases-list : goal.decreases-list
-decreases-list l = size_at l.rows.now l.root
+decreases-list l = size_at l.table.now.rows.now l.root

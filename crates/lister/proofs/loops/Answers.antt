@@ -38,4 +38,4 @@ pub returns : goal.returns
 returns c = λ l r a b.
     let v = as_rep_lem a (sym c.kind_at.ensures ∙ c.if-kind_at-ne-REP.false) in
     let h = sides_at Seq v.at (sym c.kind_at-2.ensures ∙ c.if-kind_at-ne-SEQ.false) c.left_of.ensures in
-    loops_tell c.args.text.now v h.is c.same_tree.result r (c.same_tree.ensures h.left r h.at_left b)
+    loops_tell c.args.table.now.text.now v h.is c.same_tree.result r (c.same_tree.ensures h.left r h.at_left b)

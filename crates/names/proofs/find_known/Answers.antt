@@ -18,4 +18,4 @@ pub spot_of-requires-clause-n_in_bounds : goal.spot_of-requires-clause-n_in_boun
 spot_of-requires-clause-n_in_bounds c = c.requires.n_in_bounds
 
 pub returns : goal.returns
-returns c = found_known c.requires.all_indexed _ (c.spot_of.ensures.by_index (length c.args.rules.now / rule_width) c.requires.all_indexed.indexed) c.spot_of.ensures.holds_value c.requires.name.is
+returns c = found_known c.requires.all_indexed _ (c.spot_of.ensures.by_index (length c.args.table.now.rules.now / rule_width) c.requires.all_indexed.indexed) c.spot_of.ensures.holds_value c.requires.name.is

@@ -26,16 +26,16 @@ pub beside-requires-clause-indexed : goal.beside-requires-clause-indexed
 beside-requires-clause-indexed c = c.requires.indexed
 
 pub beside-requires-clause-ends : goal.beside-requires-clause-ends
-beside-requires-clause-ends c = ends_named c.args.rules.now c.args.text.now c.args.marks.now c.args.i c.args.i _ refl refl (c.spot_of-s.ensures.by_index c.args.i c.requires.indexed)
+beside-requires-clause-ends c = ends_named c.args.table.now.rules.now c.args.table.now.text.now c.args.marks.now c.args.i c.args.i _ refl refl (c.spot_of-s.ensures.by_index c.args.i c.requires.indexed)
 
 pub beside-requires-clause-j_value : goal.beside-requires-clause-j_value
-beside-requires-clause-j_value c = (c.spot_of-s.ensures.holds_value, c.if-j-rules.true)
+beside-requires-clause-j_value c = (c.spot_of-s.ensures.holds_value, c.if-j-table.true)
 
-pub returns-then-j-rules : goal.returns-then-j-rules
-returns-then-j-rules c = c.beside.ensures
+pub returns-then-j-table : goal.returns-then-j-table
+returns-then-j-table c = c.beside.ensures
 
 pub set_half-requires : goal.set_half-requires
 set_half-requires c = (ends_inside (omega (arith, c.requires.i_in_bounds.0)) c.requires.indexed (c.spot_of-s.ensures.by_index c.args.i c.requires.indexed), omega (arith, c.requires.i_in_bounds.0, c.requires.indexed.few))
 
 pub returns : goal.returns
-returns c = record { yes = λ _. index_first c.requires.indexed c.requires.i_in_bounds.0 (ends_named c.args.rules.now c.args.text.now c.args.marks.now c.args.i c.args.i _ refl refl (c.spot_of-s.ensures.by_index c.args.i c.requires.indexed)) (omega (arith, c.spot_of-s.ensures.holds_value, c.if-j-rules.false, (c.spot_of-s.ensures.by_index c.args.i c.requires.indexed).last)) c.set_half.ensures; no = λ e. absurd (true≢false e) }
+returns c = record { yes = λ _. index_first c.requires.indexed c.requires.i_in_bounds.0 (ends_named c.args.table.now.rules.now c.args.table.now.text.now c.args.marks.now c.args.i c.args.i _ refl refl (c.spot_of-s.ensures.by_index c.args.i c.requires.indexed)) (omega (arith, c.spot_of-s.ensures.holds_value, c.if-j-table.false, (c.spot_of-s.ensures.by_index c.args.i c.requires.indexed).last)) c.set_half.ensures; no = λ e. absurd (true≢false e) }

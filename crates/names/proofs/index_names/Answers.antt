@@ -39,4 +39,4 @@ pub shape_of-marks : goal.shape_of-marks
 shape_of-marks c = c.loop-i.invariant.1 ∙ c.clear.auto.marks
 
 pub returns : goal.returns
-returns c = let l = c.loop-i in let e : l.i ≡ length c.args.rules.now / rule_width = omega (arith, c.loop-i-test.false, l.invariant.0) in record { yes = λ _. indexed_all c.requires.names_inside (rw e at l.invariant.2); no = λ e. absurd (true≢false e) }
+returns c = let l = c.loop-i in let e : l.i ≡ length c.args.table.now.rules.now / rule_width = omega (arith, c.loop-i-test.false, l.invariant.0) in record { yes = λ _. indexed_all c.requires.names_inside (rw e at l.invariant.2); no = λ e. absurd (true≢false e) }

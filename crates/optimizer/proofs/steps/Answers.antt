@@ -73,4 +73,4 @@ pub shape_of-b_text : goal.shape_of-b_text
 shape_of-b_text c = put_back max_text c.all_steps.new.b_text c.args.b_text.now c.requires.at_least_2.text c.all_steps.auto.b_text
 
 pub returns : goal.returns
-returns c = λ t l. answer_longer c.all_steps.result (all_seven (resolve_table c.args.text.now t)) c.all_steps.new.a_rules c.all_steps.new.a_rows c.all_steps.new.a_text (drop full_rules c.args.a_rules.now) (drop full_rows c.args.a_rows.now) (drop max_text c.args.a_text.now) (c.all_steps.ensures t l)
+returns c = λ t l. answer_longer c.all_steps.result (all_seven (resolve_table c.args.table.now.text.now t)) c.all_steps.new.a_rules c.all_steps.new.a_rows c.all_steps.new.a_text (drop full_rules c.args.a_rules.now) (drop full_rows c.args.a_rows.now) (drop max_text c.args.a_text.now) (c.all_steps.ensures t l)

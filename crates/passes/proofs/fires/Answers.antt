@@ -29,11 +29,11 @@ fires-requires-clause-i_value c = ap (λ (k : ℕ). k / 2) (sym c.kind_at-k.ensu
 
 pub returns-then-k-eq-PAIR : goal.returns-then-k-eq-PAIR
 unfolding node_of
-returns-then-k-eq-PAIR c = λ h look x a. node_at look c.args.kind (resolve c.args.text.now x) 1 c.in-1.is (c.fires.ensures h _ x a)
+returns-then-k-eq-PAIR c = λ h look x a. node_at look c.args.kind (resolve c.args.table.now.text.now x) 1 c.in-1.is (c.fires.ensures h _ x a)
 
 pub returns-else-k-eq-PAIR : goal.returns-else-k-eq-PAIR
 unfolding node_of
-returns-else-k-eq-PAIR c = λ h look x a. node_at look c.args.kind (resolve c.args.text.now x) 1 c.in-1.is (rotator.other_quiet _ x a (λ e. c.if-k-eq-PAIR.false (ap (λ (k : ℕ). k / 2) c.kind_at-k.ensures ∙ e)))
+returns-else-k-eq-PAIR c = λ h look x a. node_at look c.args.kind (resolve c.args.table.now.text.now x) 1 c.in-1.is (rotator.other_quiet _ x a (λ e. c.if-k-eq-PAIR.false (ap (λ (k : ℕ). k / 2) c.kind_at-k.ensures ∙ e)))
 
 -- 2
 pub fires-requires-then-k-eq-REP-clause-stands : goal.fires-requires-then-k-eq-REP-clause-stands
@@ -44,20 +44,20 @@ fires-requires-then-k-eq-REP-clause-i_value c = sym c.kind_at-k.ensures ∙ c.if
 
 pub returns-then-k-eq-REP : goal.returns-then-k-eq-REP
 unfolding node_of
-returns-then-k-eq-REP c = λ h look x a. node_at look c.args.kind (resolve c.args.text.now x) 2 c.in-2.is (c.fires-then-k-eq-REP.ensures h look _ x a)
+returns-then-k-eq-REP c = λ h look x a. node_at look c.args.kind (resolve c.args.table.now.text.now x) 2 c.in-2.is (c.fires-then-k-eq-REP.ensures h look _ x a)
 
 pub returns-else-k-eq-REP : goal.returns-else-k-eq-REP
 unfolding node_of
-returns-else-k-eq-REP c = λ h look x a. node_at look c.args.kind (resolve c.args.text.now x) 2 c.in-2.is (skipper.row_quiet look _ x a (λ e. absurd (c.if-k-eq-REP.false (c.kind_at-k.ensures ∙ e))))
+returns-else-k-eq-REP c = λ h look x a. node_at look c.args.kind (resolve c.args.table.now.text.now x) 2 c.in-2.is (skipper.row_quiet look _ x a (λ e. absurd (c.if-k-eq-REP.false (c.kind_at-k.ensures ∙ e))))
 
 -- 3
 pub returns-then-k-ge-REP_ONCE : goal.returns-then-k-ge-REP_ONCE
 unfolding node_of
-returns-then-k-ge-REP_ONCE c = λ h look x a. node_at look c.args.kind (resolve c.args.text.now x) 3 c.in-3.is (unroller.other_quiet _ x a (λ e. omega (arith, e.1, c.kind_at-k.ensures, leb-false c.kind_at-k.result 16 h)))
+returns-then-k-ge-REP_ONCE c = λ h look x a. node_at look c.args.kind (resolve c.args.table.now.text.now x) 3 c.in-3.is (unroller.other_quiet _ x a (λ e. omega (arith, e.1, c.kind_at-k.ensures, leb-false c.kind_at-k.result 16 h)))
 
 pub returns-else-k-ge-REP_ONCE : goal.returns-else-k-ge-REP_ONCE
 unfolding node_of
-returns-else-k-ge-REP_ONCE c = λ h look x a. node_at look c.args.kind (resolve c.args.text.now x) 3 c.in-3.is (unroller.other_quiet _ x a (λ e. omega (arith, e.0, c.kind_at-k.ensures, c.if-k-ge-REP_ONCE.false)))
+returns-else-k-ge-REP_ONCE c = λ h look x a. node_at look c.args.kind (resolve c.args.table.now.text.now x) 3 c.in-3.is (unroller.other_quiet _ x a (λ e. omega (arith, e.0, c.kind_at-k.ensures, c.if-k-ge-REP_ONCE.false)))
 
 -- 4
 pub fires-requires-then-k-eq-SEQ-clause-stands : goal.fires-requires-then-k-eq-SEQ-clause-stands
@@ -68,11 +68,11 @@ fires-requires-then-k-eq-SEQ-clause-i_value c = sym c.kind_at-k.ensures ∙ c.if
 
 pub returns-then-k-eq-SEQ : goal.returns-then-k-eq-SEQ
 unfolding node_of
-returns-then-k-eq-SEQ c = λ h look x a. node_at look c.args.kind (resolve c.args.text.now x) 4 c.in-4.is (c.fires-then-k-eq-SEQ.ensures h _ x a)
+returns-then-k-eq-SEQ c = λ h look x a. node_at look c.args.kind (resolve c.args.table.now.text.now x) 4 c.in-4.is (c.fires-then-k-eq-SEQ.ensures h _ x a)
 
 pub returns-else-k-eq-SEQ : goal.returns-else-k-eq-SEQ
 unfolding node_of
-returns-else-k-eq-SEQ c = λ h look x a. node_at look c.args.kind (resolve c.args.text.now x) 4 c.in-4.is (concatenator.other_quiet _ x a (λ e. c.if-k-eq-SEQ.false (c.kind_at-k.ensures ∙ e)))
+returns-else-k-eq-SEQ c = λ h look x a. node_at look c.args.kind (resolve c.args.table.now.text.now x) 4 c.in-4.is (concatenator.other_quiet _ x a (λ e. c.if-k-eq-SEQ.false (c.kind_at-k.ensures ∙ e)))
 
 -- 5
 pub fires-requires-then-k-eq-CHOICE-clause-inside : goal.fires-requires-then-k-eq-CHOICE-clause-inside

@@ -9,7 +9,7 @@ use Rattle.rows.proofs.Laws.{root}
 use Rattle.names.specs.Names.{rows_before}
 use Rattle.names.proofs.Marks.{before_step}
 use Rattle.passes.specs.Passes.{Leaves}
-use Rattle.passes.proofs.Calms.{Following, following, cut}
+use Rattle.passes.proofs.Calms.{rule_at, rooted}
 use Rattle.passes.proofs.first_fired.Goals as goal
 
 pub returns-then-step-eq-RESTORE_STEP : goal.returns-then-step-eq-RESTORE_STEP
@@ -19,32 +19,19 @@ pub loop-i-init : goal.loop-i-init
 loop-i-init c = (refl, omega arith, c.requires.from_in_bounds.0, c.requires.from_in_bounds.1, λ j b a. absurd (omega (arith, a, b)))
 
 pub overflow_add-end-in-loop-i : goal.overflow_add-end-in-loop-i
-overflow_add-end-in-loop-i c = let here : let i = c.loop-i.i in Following (λ y e. e) c.requires.held.table c.args.rules.now c.args.rows.now c.args.text.now i (rows_before c.args.rules.now i) = let h = c.requires.held.holds in following {F = λ y e. e} h (omega (arith, c.loop-i.invariant.0, c.loop-i-test.true)) (cut h _ (omega (arith, c.loop-i.invariant.0, c.loop-i.invariant.2))) in
-    let n = here in omega (arith, n.bound, n.rows, c.loop-i.invariant.3)
+overflow_add-end-in-loop-i c = let n = rule_at c.requires.held.holds c.loop-i.invariant.0 c.loop-i.invariant.3 c.loop-i-test.true in omega (arith, n.bound, n.rows)
 
 pub overflow_sub-end : goal.overflow_sub-end
-overflow_sub-end c = let here : let i = c.loop-i.i in Following (λ y e. e) c.requires.held.table c.args.rules.now c.args.rows.now c.args.text.now i (rows_before c.args.rules.now i) = let h = c.requires.held.holds in following {F = λ y e. e} h (omega (arith, c.loop-i.invariant.0, c.loop-i-test.true)) (cut h _ (omega (arith, c.loop-i.invariant.0, c.loop-i.invariant.2))) in
-    let n = here in omega (arith, n.rows, size_pos n.rule.body)
+overflow_sub-end c = let n = rule_at c.requires.held.holds c.loop-i.invariant.0 c.loop-i.invariant.3 c.loop-i-test.true in omega (arith, n.rows, size_pos n.rule.body)
 
 pub still-requires-clause-inside : goal.still-requires-clause-inside
-still-requires-clause-inside c =
-    c.requires.held.holds.inside
+still-requires-clause-inside c = c.requires.held.holds.inside
 
 pub still-requires-clause-stands : goal.still-requires-clause-stands
-still-requires-clause-stands c = let here : let i = c.loop-i.i in Following (λ y e. e) c.requires.held.table c.args.rules.now c.args.rows.now c.args.text.now i (rows_before c.args.rules.now i) = let h = c.requires.held.holds in following {F = λ y e. e} h (omega (arith, c.loop-i.invariant.0, c.loop-i-test.true)) (cut h _ (omega (arith, c.loop-i.invariant.0, c.loop-i.invariant.2))) in
-    let l = c.loop-i in
-    let n = here in
-    let p = size_pos n.rule.body in
-    let a = n.at (l.begin + get_or c.args.rules.now (c.loop-i.i * rule_width + rows_word) 0 - 1) (omega (arith, l.invariant.3, n.rows, p)) in
-    record { tree = n.rule.body; at = a }
+still-requires-clause-stands c = let n = rule_at c.requires.held.holds c.loop-i.invariant.0 c.loop-i.invariant.3 c.loop-i-test.true in record { tree = n.rule.body; at = rooted n }
 
 pub still-requires-clause-root_value : goal.still-requires-clause-root_value
-still-requires-clause-root_value c = let here : let i = c.loop-i.i in Following (λ y e. e) c.requires.held.table c.args.rules.now c.args.rows.now c.args.text.now i (rows_before c.args.rules.now i) = let h = c.requires.held.holds in following {F = λ y e. e} h (omega (arith, c.loop-i.invariant.0, c.loop-i-test.true)) (cut h _ (omega (arith, c.loop-i.invariant.0, c.loop-i.invariant.2))) in
-    let l = c.loop-i in
-    let n = here in
-    let p = size_pos n.rule.body in
-    let a = n.at (l.begin + get_or c.args.rules.now (c.loop-i.i * rule_width + rows_word) 0 - 1) (omega (arith, l.invariant.3, n.rows, p)) in
-    omega (arith, (root a).rows, n.rows, p)
+still-requires-clause-root_value c = let n = rule_at c.requires.held.holds c.loop-i.invariant.0 c.loop-i.invariant.3 c.loop-i-test.true in omega (arith, (root (rooted n)).rows, n.rows, size_pos n.rule.body)
 
 pub returns-then-not-still : goal.returns-then-not-still
 returns-then-not-still c = (c.loop-i.invariant.1, omega (arith, c.loop-i.invariant.0, c.loop-i.invariant.2), c.loop-i.invariant.4)
@@ -52,10 +39,10 @@ returns-then-not-still c = (c.loop-i.invariant.1, omega (arith, c.loop-i.invaria
 pub loop-i-preserved : goal.loop-i-preserved
 loop-i-preserved c = let l = c.loop-i in
     let v = l.invariant in
-    let f : l.begin + get_or c.args.rules.now (c.loop-i.i * rule_width + rows_word) 0 ≡ rows_before c.args.rules.now (l.i + 1) = before_step c.args.rules.now l.i l.begin v.3 in
-    let h : (k : ℕ) → k + 1 ≡ rows_before c.args.rules.now (l.i + 1) → Leaves c.args.step (get_or c.args.rules.now (l.i * rule_width + type_word) 0) c.args.rows.now c.args.text.now k = λ k q.
-    let z : l.begin + get_or c.args.rules.now (c.loop-i.i * rule_width + rows_word) 0 - 1 ≡ k = omega (arith, q, f) in
-    subst (λ (x : ℕ). Leaves c.args.step (get_or c.args.rules.now (l.i * rule_width + type_word) 0) c.args.rows.now c.args.text.now x) z (c.still.ensures c.if-not-still.false) in
+    let f : l.begin + get_or c.args.table.now.rules.now (c.loop-i.i * rule_width + rows_word) 0 ≡ rows_before c.args.table.now.rules.now (l.i + 1) = before_step c.args.table.now.rules.now l.i l.begin v.3 in
+    let h : (k : ℕ) → k + 1 ≡ rows_before c.args.table.now.rules.now (l.i + 1) → Leaves c.args.step (get_or c.args.table.now.rules.now (l.i * rule_width + type_word) 0) c.args.table.now.rows.now c.args.table.now.text.now k = λ k q.
+    let z : l.begin + get_or c.args.table.now.rules.now (c.loop-i.i * rule_width + rows_word) 0 - 1 ≡ k = omega (arith, q, f) in
+    subst (λ (x : ℕ). Leaves c.args.step (get_or c.args.table.now.rules.now (l.i * rule_width + type_word) 0) c.args.table.now.rows.now c.args.table.now.text.now x) z (c.still.ensures c.if-not-still.false) in
     (v.0, omega (arith, v.1), omega (arith, c.loop-i-test.true), f, below_more _ _ v.4 (λ _. h))
 
 pub returns : goal.returns

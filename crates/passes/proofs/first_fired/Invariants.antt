@@ -9,4 +9,4 @@ use Rattle.passes.specs.Passes.{LeavesFrom}
 use Rattle.passes.proofs.first_fired.Given as goal
 
 abbrev pub invariant-loop-i : goal.invariant-loop-i
-invariant-loop-i l = (l.count ≡ length l.rules / rule_width) × (l.from ≤ l.i) × (l.i ≤ l.count) × (l.begin ≡ rows_before l.rules l.i) × LeavesFrom l.step l.rules l.rows l.text l.from l.i
+invariant-loop-i l = (l.count ≡ length l.table.rules.now / rule_width) × (l.from ≤ l.i) × (l.i ≤ l.count) × (l.begin ≡ rows_before l.table.rules.now l.i) × LeavesFrom l.step l.table.rules.now l.table.rows.now l.table.text.now l.from l.i

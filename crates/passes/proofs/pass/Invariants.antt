@@ -10,4 +10,4 @@ use Rattle.passes.proofs.Loops.{Loop}
 use Rattle.passes.proofs.pass.Given as goal
 
 abbrev pub invariant-loop-i : goal.invariant-loop-i
-invariant-loop-i l = (l.count ≡ length l.rules / rule_width) × Loop l.step l.heads0 l.rows0 l.text0 l.rules l.rows l.text l.initial.heads l.initial.out l.initial.lits l.heads l.out l.lits l.p l.end l.i × (l.end ≡ rows_before l.rules l.i) × LeavesFrom l.step l.rules l.rows l.text l.i l.next
+invariant-loop-i l = (l.count ≡ length l.table.rules.now / rule_width) × Loop l.step l.given.rules.now l.given.rows.now l.given.text.now l.table.rules.now l.table.rows.now l.table.text.now l.initial.heads l.initial.out l.initial.lits l.heads l.out l.lits l.p l.end l.i × (l.end ≡ rows_before l.table.rules.now l.i) × LeavesFrom l.step l.table.rules.now l.table.rows.now l.table.text.now l.i l.next

@@ -8,4 +8,4 @@ use Rattle.passes.proofs.Stills.{Quiet}
 use Rattle.passes.proofs.quiet.Given as goal
 
 abbrev pub invariant-loop-i : goal.invariant-loop-i
-invariant-loop-i l = (l.root < l.i + size_at l.rows l.root) × (l.i ≤ l.root + 1) × (l.root < length l.rows / row_width) × ((j : ℕ) → j ≤ l.root → l.root < j + size_at l.rows l.root → Stands l.rows j) × ((j : ℕ) → j < l.i → l.root < j + size_at l.rows l.root → Quiet l.step l.kind l.text l.rows j)
+invariant-loop-i l = (l.root < l.i + size_at l.table.rows.now l.root) × (l.i ≤ l.root + 1) × (l.root < length l.table.rows.now / row_width) × ((j : ℕ) → j ≤ l.root → l.root < j + size_at l.table.rows.now l.root → Stands l.table.rows.now j) × ((j : ℕ) → j < l.i → l.root < j + size_at l.table.rows.now l.root → Quiet l.step l.kind l.table.text.now l.table.rows.now j)

@@ -17,13 +17,13 @@ returns-then-bad_text c = refused_4 _ _ _ (sym c.bad_counts.ensures ∙ c.if-bad
 pub check_names-requires-clause-names_inside : goal.check_names-requires-clause-names_inside
 check_names-requires-clause-names_inside c = let b = sym c.bad_counts.ensures ∙ c.if-bad_counts.false in
     let t = tells_yes c.if-not-trees.false c.trees.ensures in
-    inside_names c.args.rules.now c.args.rows.now c.args.text.now b t _ c.bad_text.ensures c.if-bad_text.false
+    inside_names c.args.table.now.rules.now c.args.table.now.rows.now c.args.table.now.text.now b t _ c.bad_text.ensures c.if-bad_text.false
 
 pub check_names-requires-clause-mark_width_in_bounds : goal.check_names-requires-clause-mark_width_in_bounds
 check_names-requires-clause-mark_width_in_bounds c = let b = sym c.bad_counts.ensures ∙ c.if-bad_counts.false in
-    let k = counts c.args.rules.now c.args.rows.now c.args.text.now b in
+    let k = counts c.args.table.now.rules.now c.args.table.now.rows.now c.args.table.now.text.now b in
     let t = tells_yes c.if-not-trees.false c.trees.ensures in
-    (omega (arith, k.rules_most, c.requires, c.bad_text.auto), omega (arith, k.rules_most), k.text_most, few_rows c.args.rules.now c.args.rows.now c.args.text.now b t)
+    (omega (arith, k.rules_most, c.requires, c.bad_text.auto), omega (arith, k.rules_most), k.text_most, few_rows c.args.table.now.rules.now c.args.table.now.rows.now c.args.table.now.text.now b t)
 
 pub returns : goal.returns
 returns c = let b = sym c.bad_counts.ensures ∙ c.if-bad_counts.false in

@@ -7,4 +7,4 @@ use Rattle.names.specs.Names.{name_of}
 use Rattle.refusals.proofs.none_reserved.Given as goal
 
 abbrev pub invariant-loop-i : goal.invariant-loop-i
-invariant-loop-i l = (j : ℕ) → j < l.i → member (name_of l.rules l.text j) reserved ≡ false
+invariant-loop-i l = (j : ℕ) → j < l.i → member (name_of l.table.rules.now l.table.text.now j) reserved ≡ false

@@ -23,12 +23,12 @@ pub bottom-literal-requires-clause-y_in_bounds : goal.bottom-literal-requires-cl
 bottom-literal-requires-clause-y_in_bounds t c = in_text _ c.requires.known.inside (row_found (sym c.row_at.ensures ∙ c.in_ok-row.was)) (sym c.shape_of.ensures ∙ c.in-Lit.is)
 
 pub bottom-returns-in-Lit : goal.bottom-returns-in-Lit
-bottom-returns-in-Lit t c = λ u r su a. lit_restored (row_found (sym c.row_at.ensures ∙ c.in_ok-row.was)) a c.args.text.now u c.literal.result c.args.p c.args.out.now c.literal.new.out c.args.lits.now c.literal.new.lits (sym c.shape_of.ensures ∙ c.in-Lit.is) (λ j h. c.literal.ensures u j su h)
+bottom-returns-in-Lit t c = λ u r su a. lit_restored (row_found (sym c.row_at.ensures ∙ c.in_ok-row.was)) a c.args.table.now.text.now u c.literal.result c.args.p c.args.out.now c.literal.new.out c.args.lits.now c.literal.new.lits (sym c.shape_of.ensures ∙ c.in-Lit.is) (λ j h. c.literal.ensures u j su h)
 
 pub bottom-returns-in_default : goal.bottom-returns-in_default
 bottom-returns-in_default t c = let f = (row_found (sym c.row_at.ensures ∙ c.in_ok-row.was)) in
     let e = c.shape_of.ensures in
-    λ u r su a. plain_row f a c.args.text.now u c.plain.result c.args.p c.args.out.now c.plain.new.out c.args.lits.now c.plain.new.lits (λ z. c.in_default.not-Two (e ∙ z)) (λ z. c.in_default.not-Lit (e ∙ z)) (λ z. c.requires.fact (ap shape_of f.kind ∙ z)) (c.plain.ensures u r a)
+    λ u r su a. plain_row f a c.args.table.now.text.now u c.plain.result c.args.p c.args.out.now c.plain.new.out c.args.lits.now c.plain.new.lits (λ z. c.in_default.not-Two (e ∙ z)) (λ z. c.in_default.not-Lit (e ∙ z)) (λ z. c.requires.fact (ap shape_of f.kind ∙ z)) (c.plain.ensures u r a)
 
 pub put-bottom-requires : goal.put-bottom-requires
 put-bottom-requires t c = let s = c.requires.stands in
@@ -36,7 +36,7 @@ put-bottom-requires t c = let s = c.requires.stands in
     (omega (arith, c.decreases, low_most s.tree s.at _ e), (c.requires.known, (record { tree = low s.tree; at = low_at s.tree s.at _ e }, (c.requires.room, low_kind s.tree s.at _ e))))
 
 pub put-returns-in_err-q : goal.put-returns-in_err-q
-put-returns-in_err-q t c = rw c.from_residual.ensures (λ u r su a. low_full u c.args.guard c.args.text.now r (c.in_err-q.ensures u (low r) su (low_at r a _ (c.below-base.ensures r a))))
+put-returns-in_err-q t c = rw c.from_residual.ensures (λ u r su a. low_full u c.args.guard c.args.table.now.text.now r (c.in_err-q.ensures u (low r) su (low_at r a _ (c.below-base.ensures r a))))
 
 pub put-climb-requires-clause-over : goal.put-climb-requires-clause-over
 put-climb-requires-clause-over t c = let s = c.requires.stands in
@@ -44,7 +44,7 @@ put-climb-requires-clause-over t c = let s = c.requires.stands in
 
 pub put-returns : goal.put-returns
 put-returns t c = λ u r su a.
-    climb_restored c.climb.result c.args.guard c.args.text.now r c.climb.new.out (c.in_ok-q.ensures u (low r) su (low_at r a _ (c.below-base.ensures r a))) (c.climb.ensures r a)
+    climb_restored c.climb.result c.args.guard c.args.table.now.text.now r c.climb.new.out (c.in_ok-q.ensures u (low r) su (low_at r a _ (c.below-base.ensures r a))) (c.climb.ensures r a)
 
 pub two-left_of-left-requires-clause-i_value : goal.two-left_of-left-requires-clause-i_value
 two-left_of-left-requires-clause-i_value t c = two_half c.requires.row_is.0 c.requires.row_is.1 c.requires.stands.at

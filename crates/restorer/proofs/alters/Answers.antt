@@ -25,7 +25,7 @@ loop-i-init c = let t = root c.requires.stands.at in let e = c.size_at.ensures i
 
 pub loop-i-preserved : goal.loop-i-preserved
 loop-i-preserved c = let v = c.loop-i.invariant in
-    let p : kind_at c.args.rows.now c.loop-i.i ≡ 18 → ⊥ = λ e. c.if-kind-eq-PUSH.false (c.kind_at-kind.ensures ∙ e) in
+    let p : kind_at c.args.table.now.rows.now c.loop-i.i ≡ 18 → ⊥ = λ e. c.if-kind-eq-PUSH.false (c.kind_at-kind.ensures ∙ e) in
     let h : Stills _ _ _ _ _ = elim c.if-kind-eq-IDENT.branch [
       | then-kind-eq-IDENT w ↦ still_name _ _ _ _ _ _ p w.name_alters.ensures (sym w.value-is ∙ c.if-name_alters.false)
       | else-kind-eq-IDENT w ↦ still_other _ _ _ _ _ p (λ e. w.if-kind-eq-IDENT.false (c.kind_at-kind.ensures ∙ e))

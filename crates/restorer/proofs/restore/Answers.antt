@@ -9,10 +9,10 @@ put-requires-clause-known c = known c.requires.marked c.requires.settles
 
 pub returns-in_err-q : goal.returns-in_err-q
 returns-in_err-q c = rw c.from_residual.ensures (λ u r l a.
-    let y = c.args.text.now in
+    let y = c.args.table.now.text.now in
     bare_full _ _ (c.in_err-q.ensures (resolve_table y u) r (sure y u l c.args.marks.now (c.requires.settles.settled u l)) a))
 
 pub returns : goal.returns
 returns c = λ u r l a.
-    let y = c.args.text.now in
+    let y = c.args.table.now.text.now in
     bare_written (c.in_ok-q.ensures (resolve_table y u) r (sure y u l c.args.marks.now (c.requires.settles.settled u l)) a)

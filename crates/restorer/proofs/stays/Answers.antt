@@ -19,4 +19,4 @@ pub returns-in-Some-false : goal.returns-in-Some-false
 returns-in-Some-false c = λ e u r l a. restore_no _ _ (c.settled.ensures (c.in-Some-false.is ∙ ap Some c.in-Some-false.field-0-test)) c.requires.settles u l r a (c.unset.ensures c.if-unset.true r a)
 
 pub returns-in_default : goal.returns-in_default
-returns-in_default c = λ e u r l a. c.alters.ensures (not-true _ e) (resolve_table c.args.text.now u) r (sure c.args.text.now u l c.args.marks.now (c.requires.settles.settled u l)) a
+returns-in_default c = λ e u r l a. c.alters.ensures (not-true _ e) (resolve_table c.args.table.now.text.now u) r (sure c.args.table.now.text.now u l c.args.marks.now (c.requires.settles.settled u l)) a

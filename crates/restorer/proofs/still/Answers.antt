@@ -8,7 +8,7 @@ use Rattle.restorer.proofs.still.Goals.{then-k-eq-IDENT, else-k-eq-IDENT}
 
 pub loop-i-preserved : goal.loop-i-preserved
 loop-i-preserved c = let v = c.loop-i.invariant in
-    let p : kind_at c.args.rows.now c.loop-i.i ≡ 18 → ⊥ = λ e. c.if-k-eq-PUSH.false (c.kind_at-k.ensures ∙ e) in
+    let p : kind_at c.args.table.now.rows.now c.loop-i.i ≡ 18 → ⊥ = λ e. c.if-k-eq-PUSH.false (c.kind_at-k.ensures ∙ e) in
     let h : Calm _ _ _ = elim c.if-k-eq-IDENT.branch [
       | then-k-eq-IDENT w ↦ calm_name _ _ _ _ p w.name_stirs.ensures (sym w.value-is ∙ c.if-name_stirs.false)
       | else-k-eq-IDENT w ↦ calm_other _ _ _ p (λ e. w.if-k-eq-IDENT.false (c.kind_at-k.ensures ∙ e))

@@ -8,4 +8,4 @@ use Rattle.restorer.proofs.Calms.{Calm}
 use Rattle.restorer.proofs.still.Given as goal
 
 abbrev pub invariant-loop-i : goal.invariant-loop-i
-invariant-loop-i l = (l.count ≡ length l.rows / row_width) × (l.i ≤ l.count) × ((j : ℕ) → j < l.i → Calm l.text l.rows j)
+invariant-loop-i l = (l.count ≡ length l.table.rows.now / row_width) × (l.i ≤ l.count) × ((j : ℕ) → j < l.i → Calm l.table.text.now l.table.rows.now j)

@@ -3,4 +3,4 @@ use Rattle.rows.specs.Rows.{size_at}
 use Rattle.rotator.proofs.+walk.Given as goal
 
 abbrev pub decreases-walk : goal.decreases-walk
-decreases-walk l = size_at l.rows.now l.root
+decreases-walk l = size_at l.table.now.rows.now l.root

@@ -5,7 +5,7 @@ use Rattle.skipper.specs.Lends.{zeros}
 use Rattle.skipper.proofs.+read_in_read_leaf_read_rule.Given as goal
 
 abbrev pub decreases-read_in : goal.decreases-read_in
-decreases-read_in l = zeros l.marks.now * 2 ^ 64 + 1 + size_at l.rows.now l.root
+decreases-read_in l = zeros l.marks.now * 2 ^ 64 + 1 + size_at l.table.now.rows.now l.root
 
 abbrev pub decreases-read_leaf : goal.decreases-read_leaf
 decreases-read_leaf l = zeros l.marks.now * 2 ^ 64 + 1

@@ -18,19 +18,19 @@ pub skip_fork-left_of-child-requires-clause-stands : goal.skip_fork-left_of-chil
 skip_fork-left_of-child-requires-clause-stands t c = record { tree = c.requires.settling.tree; at = c.requires.settling.at }
 
 pub skip_fork-left_of-child-requires-clause-i_value : goal.skip_fork-left_of-child-requires-clause-i_value
-skip_fork-left_of-child-requires-clause-i_value t c = fork_half c.args.text.now [] c.requires.settling.at c.requires.kind_value
+skip_fork-left_of-child-requires-clause-i_value t c = fork_half c.args.table.now.text.now [] c.requires.settling.at c.requires.kind_value
 
 pub skip_fork-overflow_sub-next : goal.skip_fork-overflow_sub-next
-skip_fork-overflow_sub-next t c = let v = fork_view c.args.text.now [] c.requires.settling.at c.requires.kind_value in omega (arith, v.most, v.least_left)
+skip_fork-overflow_sub-next t c = let v = fork_view c.args.table.now.text.now [] c.requires.settling.at c.requires.kind_value in omega (arith, v.most, v.least_left)
 
 pub skip_fork-loop-child-init : goal.skip_fork-loop-child-init
-skip_fork-loop-child-init t c = let v = fork_view c.args.text.now [] c.requires.settling.at c.requires.kind_value in let e : c.args.base - 1 + 1 ≡ c.args.base = omega (arith, v.most, v.least_left) in forking_none _ e
+skip_fork-loop-child-init t c = let v = fork_view c.args.table.now.text.now [] c.requires.settling.at c.requires.kind_value in let e : c.args.base - 1 + 1 ≡ c.args.base = omega (arith, v.most, v.least_left) in forking_none _ e
 
 pub skip_fork-loop-child-preserved : goal.skip_fork-loop-child-preserved
 skip_fork-loop-child-preserved t c = forking_more c.loop-child.invariant c.loop-child-test.true c.skip_tree.auto.out c.skip_tree.auto.lits (λ u x l a st. done_written _ _ _ _ _ _ c.in_ok-q.was (c.skip_tree.ensures u x l a st))
 
 pub skip_fork-crown-requires : goal.skip_fork-crown-requires
-skip_fork-crown-requires t c = let v = fork_view c.args.text.now [] c.requires.settling.at c.requires.kind_value in
+skip_fork-crown-requires t c = let v = fork_view c.args.table.now.text.now [] c.requires.settling.at c.requires.kind_value in
     let e = c.left_of-child.ensures in
     let z = forking_all c.loop-child.invariant c.loop-child-test.false (left_below v e) in
     forking_rising (z.first c.requires.settling.table v.left c.requires.settling.lent (left_stands v e) (settles_first _ v c.requires.settling.settles)) (z.second c.requires.settling.table v.right c.requires.settling.lent v.at_right (settles_second _ v c.requires.settling.settles)) c.requires.room.areas c.requires.base_le_root
@@ -67,8 +67,8 @@ skip_tree-returns-in-Forked t c = λ u r l a st.
     rw k.fell.skips (c.skip_fork.ensures u k.fell.nodes k.fell.tree l k.fell.at k.fell.settles (fell_at k.fell a) k.fell.count)
 
 pub skip_fork-skip_tree-requires : goal.skip_fork-skip_tree-requires
-skip_fork-skip_tree-requires t c = let y = c.args.text.now in
-    let v = fork_view c.args.text.now [] c.requires.settling.at c.requires.kind_value in
+skip_fork-skip_tree-requires t c = let y = c.args.table.now.text.now in
+    let v = fork_view c.args.table.now.text.now [] c.requires.settling.at c.requires.kind_value in
     let j = left_stands v c.left_of-child.ensures in
     let k = forking_child c.loop-child.invariant y v j c.requires.settling.settles c.loop-child-test.true in (
       omega (arith, c.decreases, (root k.at).rows, (root c.requires.settling.at).rows, k.least),
@@ -77,20 +77,20 @@ skip_fork-skip_tree-requires t c = let y = c.args.text.now in
 
 pub skip_fork-returns-in_err-q : goal.skip_fork-returns-in_err-q
 skip_fork-returns-in_err-q t c = rw c.from_residual.ensures (λ u us r l a st i e f.
-    let y = c.args.text.now in
-    let x = resolve_table c.args.given_text.now u in
+    let y = c.args.table.now.text.now in
+    let x = resolve_table c.args.given.now.text.now u in
     let v = fork_view y x a c.requires.kind_value in
     let j = left_stands v c.left_of-child.ensures in
     let g = rw (fork_skipped y x a c.requires.kind_value) at (fits_wrap us f) in
     forking_full c.loop-child.invariant y v j st c.loop-child-test.true (λ q o₁ b₁ z. z u v.left l j (settles_first _ v st)) c.skip_tree.new.out c.skip_tree.new.lits (λ x k w. c.skip_tree.ensures u x l k w) c.in_err-q.was g)
 
 pub skip_fork-loop-child-smaller : goal.skip_fork-loop-child-smaller
-skip_fork-loop-child-smaller t c = let v = fork_view c.args.text.now [] c.requires.settling.at c.requires.kind_value in let h = c.loop-child-test.true in omega (arith, forking_less c.loop-child.invariant (left_below v c.left_of-child.ensures) h, h)
+skip_fork-loop-child-smaller t c = let v = fork_view c.args.table.now.text.now [] c.requires.settling.at c.requires.kind_value in let h = c.loop-child-test.true in omega (arith, forking_less c.loop-child.invariant (left_below v c.left_of-child.ensures) h, h)
 
 pub skip_fork-returns : goal.skip_fork-returns
 skip_fork-returns t c = λ u us r l a st i e.
-    let y = c.args.text.now in
-    let x = resolve_table c.args.given_text.now u in
+    let y = c.args.table.now.text.now in
+    let x = resolve_table c.args.given.now.text.now u in
     let v = fork_view y x a c.requires.kind_value in
     let j = c.left_of-child.ensures in
     let z = forking_all c.loop-child.invariant c.loop-child-test.false (left_below v j) in

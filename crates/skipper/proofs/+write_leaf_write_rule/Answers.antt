@@ -13,7 +13,7 @@ pub write_leaf-put_str-requires-clause-root_in_bounds : goal.write_leaf-put_str-
 write_leaf-put_str-requires-clause-root_in_bounds t c = (root c.requires.spelled.at).inside
 
 pub write_leaf-returns-then-kind_at-eq-STR : goal.write_leaf-returns-then-kind_at-eq-STR
-write_leaf-returns-then-kind_at-eq-STR t c = λ u r ss l a sp. str_wrote c.put_str.result _ _ _ _ _ refl (spell_str c.args.text.now (here a) a (sym c.kind_at.ensures ∙ c.if-kind_at-eq-STR.true) sp) c.put_str.ensures
+write_leaf-returns-then-kind_at-eq-STR t c = λ u r ss l a sp. str_wrote c.put_str.result _ _ _ _ _ refl (spell_str c.args.table.now.text.now (here a) a (sym c.kind_at.ensures ∙ c.if-kind_at-eq-STR.true) sp) c.put_str.ensures
 
 pub write_leaf-body_of-body-requires-clause-named : goal.write_leaf-body_of-body-requires-clause-named
 write_leaf-body_of-body-requires-clause-named t c = record { rows = _; led = c.requires.led }
@@ -22,22 +22,22 @@ pub write_leaf-body_of-body-requires-clause-root_in_bounds : goal.write_leaf-bod
 write_leaf-body_of-body-requires-clause-root_in_bounds t c = (root c.requires.spelled.at).inside
 
 pub write_leaf-body_of-body-requires-clause-root_value : goal.write_leaf-body_of-body-requires-clause-root_value
-write_leaf-body_of-body-requires-clause-root_value t c = spell_ident c.args.text.now (here c.requires.spelled.at) c.requires.spelled.at (λ e. c.if-kind_at-eq-STR.false (c.kind_at.ensures ∙ e)) c.requires.spelled.spells
+write_leaf-body_of-body-requires-clause-root_value t c = spell_ident c.args.table.now.text.now (here c.requires.spelled.at) c.requires.spelled.at (λ e. c.if-kind_at-eq-STR.false (c.kind_at.ensures ∙ e)) c.requires.spelled.spells
 
 pub write_leaf-body_of-body-requires-clause-name : goal.write_leaf-body_of-body-requires-clause-name
-write_leaf-body_of-body-requires-clause-name t c = spells_known _ _ _ c.requires.spelled.lent (spell_name c.args.text.now (here c.requires.spelled.at) c.requires.spelled.at (spell_ident c.args.text.now (here c.requires.spelled.at) c.requires.spelled.at (λ e. c.if-kind_at-eq-STR.false (c.kind_at.ensures ∙ e)) c.requires.spelled.spells) c.requires.spelled.spells)
+write_leaf-body_of-body-requires-clause-name t c = spells_known _ _ _ c.requires.spelled.lent (spell_name c.args.table.now.text.now (here c.requires.spelled.at) c.requires.spelled.at (spell_ident c.args.table.now.text.now (here c.requires.spelled.at) c.requires.spelled.at (λ e. c.if-kind_at-eq-STR.false (c.kind_at.ensures ∙ e)) c.requires.spelled.spells) c.requires.spelled.spells)
 
 pub write_leaf-overflow_sub-fuel : goal.write_leaf-overflow_sub-fuel
-write_leaf-overflow_sub-fuel t c = name_fuel _ _ (spell_name c.args.text.now (here c.requires.spelled.at) c.requires.spelled.at (spell_ident c.args.text.now (here c.requires.spelled.at) c.requires.spelled.at (λ e. c.if-kind_at-eq-STR.false (c.kind_at.ensures ∙ e)) c.requires.spelled.spells) c.requires.spelled.spells)
+write_leaf-overflow_sub-fuel t c = name_fuel _ _ (spell_name c.args.table.now.text.now (here c.requires.spelled.at) c.requires.spelled.at (spell_ident c.args.table.now.text.now (here c.requires.spelled.at) c.requires.spelled.at (λ e. c.if-kind_at-eq-STR.false (c.kind_at.ensures ∙ e)) c.requires.spelled.spells) c.requires.spelled.spells)
 
 pub write_leaf-write_rule-requires : goal.write_leaf-write_rule-requires
-write_leaf-write_rule-requires t c = let x = spell_name c.args.text.now (here c.requires.spelled.at) c.requires.spelled.at (spell_ident c.args.text.now (here c.requires.spelled.at) c.requires.spelled.at (λ e. c.if-kind_at-eq-STR.false (c.kind_at.ensures ∙ e)) c.requires.spelled.spells) c.requires.spelled.spells in
+write_leaf-write_rule-requires t c = let x = spell_name c.args.table.now.text.now (here c.requires.spelled.at) c.requires.spelled.at (spell_ident c.args.table.now.text.now (here c.requires.spelled.at) c.requires.spelled.at (λ e. c.if-kind_at-eq-STR.false (c.kind_at.ensures ∙ e)) c.requires.spelled.spells) c.requires.spelled.spells in
     let b = c.body_of-body.ensures _ c.requires.spelled.table c.requires.spelled.lent (c.requires.led.targets c.requires.spelled.table c.requires.spelled.lent) in
     let h = root b.at in
-    (omega (arith, c.decreases, name_fuel _ _ x, h.rows, h.most, h.inside, c.well_formed.1.0.0), (c.requires.led, (record { table = c.requires.spelled.table; lent = c.requires.spelled.lent; tree = b.tree; at = b.at; list = c.requires.spelled.list; spells = b.gives _ c.requires.spelled.list x }, c.requires.room)))
+    (omega (arith, c.decreases, name_fuel _ _ x, h.rows, h.most, h.inside), (c.requires.led, (record { table = c.requires.spelled.table; lent = c.requires.spelled.lent; tree = b.tree; at = b.at; list = c.requires.spelled.list; spells = b.gives _ c.requires.spelled.list x }, c.requires.room)))
 
 pub write_leaf-returns : goal.write_leaf-returns
-write_leaf-returns t c = λ u r ss l a sp. let x = spell_name c.args.text.now (here a) a (spell_ident c.args.text.now (here a) a (λ e. c.if-kind_at-eq-STR.false (c.kind_at.ensures ∙ e)) sp) sp in let b = c.body_of-body.ensures _ u l (c.requires.led.targets u l) in c.write_rule.ensures u b.tree ss l b.at (b.gives _ ss x)
+write_leaf-returns t c = λ u r ss l a sp. let x = spell_name c.args.table.now.text.now (here a) a (spell_ident c.args.table.now.text.now (here a) a (λ e. c.if-kind_at-eq-STR.false (c.kind_at.ensures ∙ e)) sp) sp in let b = c.body_of-body.ensures _ u l (c.requires.led.targets u l) in c.write_rule.ensures u b.tree ss l b.at (b.gives _ ss x)
 
 pub write_rule-kind_at-requires : goal.write_rule-kind_at-requires
 write_rule-kind_at-requires t c = let inv = c.loop-leaf.invariant in (root (ahead inv).at).inside
@@ -87,10 +87,10 @@ pub write_rule-overflow_sub-fuel_left : goal.write_rule-overflow_sub-fuel_left
 write_rule-overflow_sub-fuel_left t c = let inv = c.loop-leaf.invariant in name_has (ahead inv) (λ e. c.if-kind_at-eq-CHOICE.false (c.kind_at-in-loop-leaf.ensures ∙ e)) (λ e. c.loop-leaf-test.true (c.kind_at.ensures ∙ e))
 
 pub write_rule-loop-leaf-smaller : goal.write_rule-loop-leaf-smaller
-write_rule-loop-leaf-smaller t c = let inv = c.loop-leaf.invariant in body_less inv (λ e. c.if-kind_at-eq-CHOICE.false (c.kind_at-in-loop-leaf.ensures ∙ e)) (λ e. c.loop-leaf-test.true (c.kind_at.ensures ∙ e)) (λ u l. c.body_of-at.ensures _ u l (c.requires.led.targets u l)) c.well_formed.1.0.0
+write_rule-loop-leaf-smaller t c = let inv = c.loop-leaf.invariant in body_less inv (λ e. c.if-kind_at-eq-CHOICE.false (c.kind_at-in-loop-leaf.ensures ∙ e)) (λ e. c.loop-leaf-test.true (c.kind_at.ensures ∙ e)) (λ u l. c.body_of-at.ensures _ u l (c.requires.led.targets u l)) (omega arith)
 
 pub write_rule-loop-leaf-preserved : goal.write_rule-loop-leaf-preserved
-write_rule-loop-leaf-preserved t c = let inv = c.loop-leaf.invariant in go_body inv (λ e. c.if-kind_at-eq-CHOICE.false (c.kind_at-in-loop-leaf.ensures ∙ e)) (λ e. c.loop-leaf-test.true (c.kind_at.ensures ∙ e)) (λ u l. c.body_of-at.ensures _ u l (c.requires.led.targets u l)) c.well_formed.1.0.0
+write_rule-loop-leaf-preserved t c = let inv = c.loop-leaf.invariant in go_body inv (λ e. c.if-kind_at-eq-CHOICE.false (c.kind_at-in-loop-leaf.ensures ∙ e)) (λ e. c.loop-leaf-test.true (c.kind_at.ensures ∙ e)) (λ u l. c.body_of-at.ensures _ u l (c.requires.led.targets u l)) (omega arith)
 
 pub write_rule-put_str-requires-clause-root_in_bounds : goal.write_rule-put_str-requires-clause-root_in_bounds
 write_rule-put_str-requires-clause-root_in_bounds t c = let inv = c.loop-leaf.invariant in

@@ -5,13 +5,13 @@ use Rattle.skipper.proofs.Onward.{Going}
 use Rattle.skipper.proofs.+write_leaf_write_rule.Given as goal
 
 abbrev pub decreases-write_leaf : goal.decreases-write_leaf
-decreases-write_leaf l = l.fuel * 2 ^ 64 + size_at l.rows.now l.root
+decreases-write_leaf l = l.fuel * 2 ^ 64 + size_at l.table.now.rows.now l.root
 
 abbrev pub decreases-write_rule : goal.decreases-write_rule
-decreases-write_rule l = l.fuel * 2 ^ 64 + size_at l.rows.now l.root
+decreases-write_rule l = l.fuel * 2 ^ 64 + size_at l.table.now.rows.now l.root
 
 abbrev pub invariant-write_rule-loop-leaf : goal.invariant-write_rule-loop-leaf
-invariant-write_rule-loop-leaf l = Going l.rules l.rows l.text l.rows l.text l.root l.fuel l.initial.q l.initial.out l.initial.lits l.at l.fuel_left l.q l.out l.lits
+invariant-write_rule-loop-leaf l = Going l.table.rules.now l.table.rows.now l.table.text.now l.table.rows.now l.table.text.now l.root l.fuel l.initial.q l.initial.out l.initial.lits l.at l.fuel_left l.q l.out l.lits
 
 abbrev pub decreases-write_rule-loop-leaf : goal.decreases-write_rule-loop-leaf
-decreases-write_rule-loop-leaf l = l.fuel_left * 2 ^ 64 + size_at l.rows l.at
+decreases-write_rule-loop-leaf l = l.fuel_left * 2 ^ 64 + size_at l.table.rows.now l.at

@@ -3,7 +3,7 @@ use Rattle.skipper.proofs.Falls.{Falls}
 use Rattle.skipper.proofs.fall.Given as goal
 
 abbrev pub invariant-loop-base : goal.invariant-loop-base
-invariant-loop-base l = Falls l.rules l.given l.marks l.rows l.text l.root l.base
+invariant-loop-base l = Falls l.given.rules.now l.given.text.now l.marks l.table.rows.now l.table.text.now l.root l.base
 
 abbrev pub decreases-loop-base : goal.decreases-loop-base
 decreases-loop-base l = l.base

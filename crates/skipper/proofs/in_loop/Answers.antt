@@ -36,10 +36,10 @@ pub overflow_sub-right-then-is_any : goal.overflow_sub-right-then-is_any
 overflow_sub-right-then-is_any c = let v = seq_here c.requires.stands.at c.kind_at.ensures c.if-kind_at-ne-SEQ.false in omega (arith, v.most, v.least_left, v.least_right)
 
 pub after_not-requires : goal.after_not-requires
-after_not-requires c = let a = c.requires.stands.at in before_any c.args.text.now (read_found_lem a c.kind_at.ensures) a c.if-kind_at-ne-SEQ.false (right_here a c.kind_at.ensures c.if-kind_at-ne-SEQ.false c.kind_at-2.ensures) c.if-kind_at-ne-IDENT.false
+after_not-requires c = let a = c.requires.stands.at in before_any c.args.table.now.text.now (read_found_lem a c.kind_at.ensures) a c.if-kind_at-ne-SEQ.false (right_here a c.kind_at.ensures c.if-kind_at-ne-SEQ.false c.kind_at-2.ensures) c.if-kind_at-ne-IDENT.false
 
 pub returns-then-is_any : goal.returns-then-is_any
-returns-then-is_any c = λ r a. let y = c.args.text.now in loop_with_any y (read_found_lem a c.kind_at.ensures) a c.if-kind_at-ne-SEQ.false (right_here c.requires.stands.at c.kind_at.ensures c.if-kind_at-ne-SEQ.false c.kind_at-2.ensures) c.if-kind_at-ne-IDENT.false c.after_not.result (rw (← c.x_at.ensures, ← c.y_at.ensures) (sym c.is_any.ensures ∙ c.if-is_any.true)) (c.after_not.ensures y _ (left_at y (read_found_lem a c.kind_at.ensures) a c.if-kind_at-ne-SEQ.false (right_here c.requires.stands.at c.kind_at.ensures c.if-kind_at-ne-SEQ.false c.kind_at-2.ensures) c.if-kind_at-ne-IDENT.false))
+returns-then-is_any c = λ r a. let y = c.args.table.now.text.now in loop_with_any y (read_found_lem a c.kind_at.ensures) a c.if-kind_at-ne-SEQ.false (right_here c.requires.stands.at c.kind_at.ensures c.if-kind_at-ne-SEQ.false c.kind_at-2.ensures) c.if-kind_at-ne-IDENT.false c.after_not.result (rw (← c.x_at.ensures, ← c.y_at.ensures) (sym c.is_any.ensures ∙ c.if-is_any.true)) (c.after_not.ensures y _ (left_at y (read_found_lem a c.kind_at.ensures) a c.if-kind_at-ne-SEQ.false (right_here c.requires.stands.at c.kind_at.ensures c.if-kind_at-ne-SEQ.false c.kind_at-2.ensures) c.if-kind_at-ne-IDENT.false))
 
 pub returns-else-is_any : goal.returns-else-is_any
 returns-else-is_any c = λ r a. loop_not_any _ (read_found_lem a c.kind_at.ensures) a c.if-kind_at-ne-SEQ.false (right_here c.requires.stands.at c.kind_at.ensures c.if-kind_at-ne-SEQ.false c.kind_at-2.ensures) c.if-kind_at-ne-IDENT.false (rw (← c.x_at.ensures, ← c.y_at.ensures) (sym c.is_any.ensures ∙ c.if-is_any.false))

@@ -12,10 +12,10 @@ pub kind_at-requires : goal.kind_at-requires
 kind_at-requires c = rule_inside c.requires.given.lent c.args.i c.requires.i_in_bounds c.requires.given.ended
 
 pub returns-then-kind_at-ne-IDENT : goal.returns-then-kind_at-ne-IDENT
-returns-then-kind_at-ne-IDENT c = λ t l. rule_itself l c.args.text.now c.requires.i_in_bounds
+returns-then-kind_at-ne-IDENT c = λ t l. rule_itself l c.args.table.now.text.now c.requires.i_in_bounds
 
 pub rule_at-requires-clause-root_in_bounds : goal.rule_at-requires-clause-root_in_bounds
 rule_at-requires-clause-root_in_bounds c = rule_inside c.requires.given.lent c.args.i c.requires.i_in_bounds c.requires.given.ended
 
 pub returns : goal.returns
-returns c = rw c.unwrap_or.ensures (λ t l. rule_or l c.args.text.now c.requires.i_in_bounds c.requires.given.ended refl (kind_found (rule_inside c.requires.given.lent c.args.i c.requires.i_in_bounds c.requires.given.ended) c.kind_at.ensures) c.if-kind_at-ne-IDENT.false c.rule_at.result c.rule_at.ensures)
+returns c = rw c.unwrap_or.ensures (λ t l. rule_or l c.args.table.now.text.now c.requires.i_in_bounds c.requires.given.ended refl (kind_found (rule_inside c.requires.given.lent c.args.i c.requires.i_in_bounds c.requires.given.ended) c.kind_at.ensures) c.if-kind_at-ne-IDENT.false c.rule_at.result c.rule_at.ensures)

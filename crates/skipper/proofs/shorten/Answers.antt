@@ -10,7 +10,7 @@ loop-steps-init c = (refl, record { least = omega arith; long = refl; relisted =
 
 pub pass_all-requires-clause-leading : goal.pass_all-requires-clause-leading
 pass_all-requires-clause-leading c = let inv = c.loop-steps.invariant in
-    record { table = resolve_table c.args.text.now c.requires.table; long = omega (arith, inv.0, length_table c.args.text.now c.requires.table, count c.requires.table c.requires.lent.heads); targets = inv.1.targets c.requires.table c.requires.lent }
+    record { table = resolve_table c.args.table.now.text.now c.requires.table; long = omega (arith, inv.0, length_table c.args.table.now.text.now c.requires.table, count c.requires.table c.requires.lent.heads); targets = inv.1.targets c.requires.table c.requires.lent }
 
 pub loop-steps-preserved : goal.loop-steps-preserved
 loop-steps-preserved c = let inv = c.loop-steps.invariant in (
@@ -19,6 +19,6 @@ loop-steps-preserved c = let inv = c.loop-steps.invariant in (
     least = omega (arith, inv.1.least);
     long = c.pass_all.auto.marks ∙ inv.1.long;
     relisted = relisted_more inv.1.relisted c.pass_all.ensures.relisted;
-    targets = λ t l. c.pass_all.ensures.targets (resolve_table c.args.text.now t) (inv.0 ∙ count t l.heads ∙ sym (length_table c.args.text.now t)) (inv.1.targets t l);
+    targets = λ t l. c.pass_all.ensures.targets (resolve_table c.args.table.now.text.now t) (inv.0 ∙ count t l.heads ∙ sym (length_table c.args.table.now.text.now t)) (inv.1.targets t l);
   },
 )

@@ -5,7 +5,7 @@ use Rattle.skipper.proofs.Ways.{gives_small, rule_itself, relisted_set, targets_
 use Rattle.skipper.proofs.tell.Goals as goal
 
 pub returns-then-marks-i-lt-LIST-clause-targets_of : goal.returns-then-marks-i-lt-LIST-clause-targets_of
-returns-then-marks-i-lt-LIST-clause-targets_of c = λ t l h. targets_kept c.if-marks-i-lt-LIST.true (rule_itself l c.args.text.now c.requires.i_in_bounds) h
+returns-then-marks-i-lt-LIST-clause-targets_of c = λ t l h. targets_kept c.if-marks-i-lt-LIST.true (rule_itself l c.args.table.now.text.now c.requires.i_in_bounds) h
 
 pub overflow_cast-marks : goal.overflow_cast-marks
 overflow_cast-marks c = omega (arith, gives_small c.requires.given (c.named_by-j.ensures c.requires.given.table c.requires.given.lent))

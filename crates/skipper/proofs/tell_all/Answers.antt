@@ -24,4 +24,4 @@ loop-i-preserved c = let inv = c.loop-i.invariant in (
 
 pub returns-clause-targets : goal.returns-clause-targets
 returns-clause-targets c = let inv = c.loop-i.invariant in
-    λ t l. record { to = λ i b. (inv.1.targets t l).to i (omega (arith, c.loop-i-test.false, inv.0, length_table c.args.text.now t, count t l.heads)) }
+    λ t l. record { to = λ i b. (inv.1.targets t l).to i (omega (arith, c.loop-i-test.false, inv.0, length_table c.args.table.now.text.now t, count t l.heads)) }

@@ -6,4 +6,4 @@ use Rattle.skipper.proofs.Ways.{Telling}
 use Rattle.skipper.proofs.tell_all.Given as goal
 
 abbrev pub invariant-loop-i : goal.invariant-loop-i
-invariant-loop-i l = (l.count ≡ length l.rules / rule_width) × Telling l.rules l.rows l.text l.initial.marks l.marks l.i
+invariant-loop-i l = (l.count ≡ length l.table.rules.now / rule_width) × Telling l.table.rules.now l.table.rows.now l.table.text.now l.initial.marks l.marks l.i

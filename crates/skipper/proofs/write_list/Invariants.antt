@@ -4,7 +4,7 @@ use Rattle.skipper.proofs.Onward.{Going}
 use Rattle.skipper.proofs.write_list.Given as goal
 
 abbrev pub invariant-loop-leaf : goal.invariant-loop-leaf
-invariant-loop-leaf l = Going l.given_rules l.given_rows l.given_text l.rows l.text l.root l.fuel l.initial.q l.initial.out l.initial.lits l.at l.fuel l.q l.out l.lits
+invariant-loop-leaf l = Going l.given.rules.now l.given.rows.now l.given.text.now l.table.rows.now l.table.text.now l.root l.fuel l.initial.q l.initial.out l.initial.lits l.at l.fuel l.q l.out l.lits
 
 abbrev pub decreases-loop-leaf : goal.decreases-loop-leaf
-decreases-loop-leaf l = size_at l.rows l.at
+decreases-loop-leaf l = size_at l.table.rows.now l.at

@@ -1,11 +1,10 @@
 -- the function's entry, from where the place is known; that, from after the scan; and the scan, from after the marks are settled
-use mathlib.Core.Path.{refl, sym}
+use mathlib.Core.Path.{sym}
 use native.Mathlib.Omega.{arith}
 use lib.Seq.{length-take-le}
 use Rattle.grammar.specs.Table.{packed_from}
 use Rattle.turns.proofs.Sizes.{sized_areas, sized_same, full_stays}
 use Rattle.turns.proofs.Turns.{stands_within, stands_holds, stands_covers, stands_few, stands_small, stands_marked, stands_other, restore_passing, held_rows, unrestored_stood, restored_stood}
-use Rattle.turns.specs.Chain.{Sized}
 use borrow.Author.Rules.{rules}
 use Rattle.turns.proofs.restore.Goals as goal
 
@@ -61,30 +60,21 @@ settle-requires-clause-rule_width_in_bounds c = let e = c.in_ok-p.was in
     z.1
 
 pub pass-requires-clause-passing : goal.pass-requires-clause-passing
-pass-requires-clause-passing c = let settled : Sized c.settle.new.stack c.args.rows2.now c.args.text2.now = sized_same c.settle.auto.stack refl refl c.requires.stands.works.other in
-    let e = c.in_ok-p.was in
-    let k = stands_other c.requires.stands settled in
-    restore_passing k e c.settle.ensures.given.marked c.settle.ensures.settles
+pass-requires-clause-passing c = restore_passing (stands_other c.requires.stands c.settle.auto.stack) c.in_ok-p.was c.settle.ensures.given.marked c.settle.ensures.settles
 
 pub pass-requires-clause-leaves_from : goal.pass-requires-clause-leaves_from
 pass-requires-clause-leaves_from c =
     λ j b. absurd (omega (arith, b))
 
 pub pass-requires-clause-rules_in_bounds : goal.pass-requires-clause-rules_in_bounds
-pass-requires-clause-rules_in_bounds c = let settled : Sized c.settle.new.stack c.args.rows2.now c.args.text2.now = sized_same c.settle.auto.stack refl refl c.requires.stands.works.other in
-    let e = c.in_ok-p.was in
-    let k = stands_other c.requires.stands settled in
-    stands_few k e
+pass-requires-clause-rules_in_bounds c = stands_few (stands_other c.requires.stands c.settle.auto.stack) c.in_ok-p.was
 
 pub pass-requires-clause-areas : goal.pass-requires-clause-areas
-pass-requires-clause-areas c = let settled : Sized c.settle.new.stack c.args.rows2.now c.args.text2.now = sized_same c.settle.auto.stack refl refl c.requires.stands.works.other in
-    let k = stands_other c.requires.stands settled in
-    sized_areas k.works.other
+pass-requires-clause-areas c = sized_areas (stands_other c.requires.stands c.settle.auto.stack).works.other
 
 pub returns : goal.returns
-returns c = let settled : Sized c.settle.new.stack c.args.rows2.now c.args.text2.now = sized_same c.settle.auto.stack refl refl c.requires.stands.works.other in
-    let e = c.in_ok-p.was in
-    let z = c.requires.stands.works in
+returns c = let e = c.in_ok-p.was in
+    let z = (stands_other c.requires.stands c.settle.auto.stack).works in
     λ t large h n.
     let m = held_rows e h n in
-    restored_stood e h n c.pass.result z.one settled (sized_same c.pass.auto.heads c.pass.auto.out c.pass.auto.lits settled) (c.pass.ensures (packed_from 0 t) (packed_from 0 t) (record { rules = m.rules; rows = m.rows }) m)
+    restored_stood e h n c.pass.result z.one z.other (sized_same c.pass.auto.heads c.pass.auto.out c.pass.auto.lits z.other) (c.pass.ensures (packed_from 0 t) (packed_from 0 t) (record { rules = m.rules; rows = m.rows }) m)

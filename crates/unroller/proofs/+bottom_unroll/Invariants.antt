@@ -4,7 +4,7 @@ use Rattle.rows.specs.Rows.{size_at}
 use Rattle.unroller.proofs.+bottom_unroll.Given as goal
 
 abbrev pub decreases-bottom : goal.decreases-bottom
-decreases-bottom l = size_at l.rows.now l.root * 2
+decreases-bottom l = size_at l.table.now.rows.now l.root * 2
 
 abbrev pub decreases-unroll : goal.decreases-unroll
-decreases-unroll l = size_at l.rows.now l.root * 2 + 1
+decreases-unroll l = size_at l.table.now.rows.now l.root * 2 + 1
