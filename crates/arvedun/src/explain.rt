@@ -33,7 +33,7 @@ pub extern "C" fn arvedun_explain(
     match explainer::explain(&LentTable { rules, rows, text }, row, list, marks) {
         Ok(a) => ArvedunExplained {
             number: 0,
-            answer: a.answer as u32,
+            answer: u32::from(a.answer),
             rule: a.rule,
             at: a.at,
             met: a.met,

@@ -17,7 +17,7 @@ pub fn answer(
 ) -> io::Result<()> {
     let mut list = [WORD; LIST_AREA];
     let (number, answer, rule, at, met, opened) = match explained(lend, table, row, &mut list) {
-        Ok(e) => (0, e.answer as u32, e.rule, e.at, e.met, e.opened),
+        Ok(e) => (0, u32::from(e.answer), e.rule, e.at, e.met, e.opened),
         Err(r) => (u32::from(r), 0, 0, 0, 0, 0),
     };
     answers.put_words(&[number, answer, rule, at, met, opened])?;
