@@ -49,7 +49,7 @@ def functions():
                     depth -= 1
                     if depth == 0:
                         break
-            params = [p.strip() for p in m.group(2).replace('\n', ' ').split(',') if p.strip()]
+            params = [p.strip() for p in re.sub(r'<[^<>]*>', '', m.group(2)).replace('\n', ' ').split(',') if p.strip()]
             yield m.group(1), n, params, s[k + 1:e]
 
 

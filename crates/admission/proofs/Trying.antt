@@ -94,15 +94,14 @@ module _ {rules rows : List ℕ} {text : Bytes} {marks : List ℕ} (p : Passed (
   one_table {t} l = same_words p.table t (sym passed_lent.heads ∙ l.heads) (sym passed_lent.trees ∙ l.trees)
 
   -- refusal 7
-  pub tried_again : {a : Result ⊤ Refusal} {r : Refusal} (m : List ℕ) → a ≡ Err r → ((t : Table Span) → Lent rules rows t → ListsAnswer a (resolve_table text t) m) → Tried (number_of r) (lent rules rows text) m
+  pub tried_again : {a : Result ⊤ Refusal} {r : Refusal} (m : List ℕ) → a ≡ Err r → ((t : Table Span) → Lent rules rows t → ListsAnswer a (resolve_table text t) m) → Tried 7 (lent rules rows text) m
   tried_again {a} {r} m e f =
       let t : Table Bytes = resolve_table text p.table in
       let k = subst (λ (x : Result ⊤ Refusal). ListsAnswer x t m) e (f p.table passed_lent) in
-      let n : number_of r ≡ 7 = ap number_of k.0 in
       record {
-        refuses = λ _. call_passed (lent rules rows text) marks p ∙ ap (λ (x : Bool). refuse_if x 7 (finish (stages t))) k.1 ∙ ap refused (sym n);
-        ready = λ z. absurd (omega (arith, n, z));
-        rest = λ z. absurd (omega (arith, n, z));
+        refuses = λ _. call_passed (lent rules rows text) marks p ∙ ap (λ (x : Bool). refuse_if x 7 (finish (stages t))) k.1;
+        ready = λ z. absurd (omega arith);
+        rest = λ z. absurd (omega arith);
       }
 
   -- or the lists are read

@@ -43,11 +43,16 @@ fn lists_and_size(table: &LentTable, marks: &mut [u32]) -> Result<(), Refusal>
     requires { Passed (lent table.now.rules.now table.now.rows.now table.now.text.now) marks.old }
     ensures { Tried (number_in result) (lent table.now.rules.now table.now.rows.now table.now.text.now) marks.new }
 {
-    skipper::read_lists(table, marks)?;
-    if FULL_TEXT < packing::text_size(table) {
-        return Err(Refusal::Full);
+    match skipper::read_lists(table, marks) {
+        Err(_) => Err(Refusal::Cycle),
+        Ok(()) => {
+            if FULL_TEXT < packing::text_size(table) {
+                Err(Refusal::Full)
+            } else {
+                Ok(())
+            }
+        }
     }
-    Ok(())
 }
 
 // The lowest refusal that a call meets before the first step; where there is none, the marks settle the skip lists.

@@ -29,7 +29,9 @@ pub struct Areas {
 }
 
 impl Areas {
-    pub fn new() -> Self {
+    pub fn new() -> Self
+        ensures { (1040 ≡ length result.rules) × (16400 ≡ length result.rows) × (65552 ≡ length result.text) }
+    {
         Areas {
             rules: [WORD; RULES_AREA],
             rows: [WORD; ROWS_AREA],
@@ -38,7 +40,7 @@ impl Areas {
     }
 
     // The table that an answer left in them.
-    pub fn table(&self, a: Answer) -> LentTable<'_>
+    pub fn table(&self, a: Answer) -> LentTable
         ensures rules { result.rules.now ≡ take (4 * a.rules) self.now.rules }
         ensures rows { result.rows.now ≡ take (4 * a.rows) self.now.rows }
         ensures text { result.text.now ≡ take a.text self.now.text }
@@ -85,15 +87,21 @@ impl Lend {
 }
 
 // The call, with work areas of its own.
-pub fn answer(lend: Lend, t: LentTable<'_>, out: &mut Areas) -> Result<Answer, Refusal> {
+pub fn answer(
+    lend: Lend,
+    t: LentTable,
+    out_rules: &mut [u32],
+    out_rows: &mut [u32],
+    out_text: &mut [u8],
+) -> Result<Answer, Refusal> {
     let mut a = Areas::new();
     let mut b = Areas::new();
     let mut marks = [WORD; RULES_AREA];
     optimizer::optimize(
         &t,
-        lend.part(&mut out.rules, FULL_RULES, 1),
-        lend.part(&mut out.rows, FULL_ROWS, 2),
-        lend.part(&mut out.text, FULL_TEXT, 3),
+        lend.part(out_rules, FULL_RULES, 1),
+        lend.part(out_rows, FULL_ROWS, 2),
+        lend.part(out_text, FULL_TEXT, 3),
         lend.part(&mut a.rules, FULL_RULES, 4),
         lend.part(&mut a.rows, FULL_ROWS, 5),
         lend.part(&mut a.text, FULL_TEXT, 6),

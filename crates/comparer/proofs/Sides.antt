@@ -85,7 +85,7 @@ module _ {rules rows : List ℕ} {text : Bytes} {m : List ℕ} (s : Sound rules 
   abbrev ends : ℕ
   ends = get_or m (i * mark_width + end_word) 0
 
-  side_end : ends ≡ rows_before rules (suc i)
+  pub side_end : ends ≡ rows_before rules (suc i)
   side_end = s.ended.end i l
 
   pub side_stands : StandsIn rows (ends - 1) (length text)

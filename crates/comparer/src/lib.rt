@@ -385,20 +385,20 @@ pub fn place(
 }
 
 // The text of the asked side.
-fn asked<'a>(side: u32, left_text: &'a [u8], right_text: &'a [u8]) -> &'a [u8]
+fn asked<'t>(side: u32, left_text: &'t [u8], right_text: &'t [u8]) -> &'t [u8]
     ensures { result.now ≡ cond (eqb side 0) left_text.now right_text.now }
 {
     if side == LEFT { left_text } else { right_text }
 }
 
 // Its bytes, as a part of whichever text holds them; none where there is no such literal.
-pub fn shown<'a>(
-    left: &LentTable<'a>,
-    right: &LentTable<'a>,
+pub fn shown<'t>(
+    left: &LentTable<'_, '_, 't>,
+    right: &LentTable<'_, '_, 't>,
     side: u32,
     rule: usize,
     row: usize,
-) -> &'a [u8]
+) -> &'t [u8]
     ensures { result.now ≡ literal.bytes_of (lent left.now.rules.now left.now.rows.now left.now.text.now) (lent right.now.rules.now right.now.rows.now right.now.text.now) side rule row }
 {
     let text = asked(side, left.text, right.text);

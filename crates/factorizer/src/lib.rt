@@ -23,8 +23,8 @@ use writing::Place;
 // The roots of a Seq's two sides.
 #[derive(Clone, Copy)]
 pub struct Sides {
-    head: usize,
-    tail: usize,
+    pub head: usize,
+    pub tail: usize,
 }
 
 // What a Choice of two subtrees is, by the roots that it goes on with:
@@ -117,9 +117,9 @@ pub fn fires(table: &LentTable, i: usize, tight: bool) -> bool
 // The rows of a node's two sides.
 #[derive(Clone, Copy)]
 pub struct Parts {
-    kind: u32,
-    l: usize,
-    r: usize,
+    pub kind: u32,
+    pub l: usize,
+    pub r: usize,
 }
 
 // What is written for a tree: the factored subtree of row x, then that of row y or, with z, of the Choice of rows y and z, and the rows

@@ -80,12 +80,13 @@ pub const RESTORE_ON_ERR: u32 = 19;
 // Half the kind of a row with two children: of Seq and of Choice, and of no other.
 pub const PAIR: u32 = 4;
 
-// A table as it is lent: the words of its rules and rows, and the text of its names and literals.
+// A table as it is lent: the words of its rules and rows, and the text of its names and literals. Each is lent for itself: a part of the text
+// may outlive the words.
 #[derive(Clone, Copy)]
-pub struct LentTable<'a> {
-    pub rules: &'a [u32],
-    pub rows: &'a [u32],
-    pub text: &'a [u8],
+pub struct LentTable<'r, 'w, 't> {
+    pub rules: &'r [u32],
+    pub rows: &'w [u32],
+    pub text: &'t [u8],
 }
 
 // The last byte that a name or a literal may have.

@@ -1,26 +1,31 @@
--- A run of rows moved over the two before it. Assumes nothing.
+-- A run of words moved down over itself. Assumes nothing.
 use Rattle.std.specs.Prelude.{None, Option, Some}
-use Rattle.std.specs.List.{copy_within}
-use mathlib.Core.Path.{◌≡◌, sym, ap, ◌∙◌}
-use mathlib.Core.List.{List, ◌++◌, append_assoc}
-use Prim.Native.Nat.{ℕ, ◌+◌, ◌-◌, ◌*◌, ◌≤◌}
+use mathlib.Core.Path.{◌≡◌, refl, ap, ◌∙◌}
+use mathlib.Core.List.{List, [], ◌∷◌, ◌++◌, append_assoc}
+use Prim.Native.Nat.{ℕ, suc, ◌+◌, ◌-◌, ◌*◌, ◌≤◌, ◌<◌}
 use native.Mathlib.Omega.{arith}
-use lib.ListN.{length, take, drop, length-take, length-drop}
-use lib.Seq.{drop-drop}
+use lib.ListN.{length, get_or, take, drop, set, length-take, length-drop}
+use lib.Seq.{sets, get_or-set_other}
 use Rattle.grammar.specs.Numbers.{row_width}
 use Rattle.grammar.specs.Rows.{row}
 use Rattle.writing.specs.declared.Place.{Place}
 use Rattle.writing.specs.Writes.{stored, RowAnswer}
-use Rattle.writing.proofs.Runs.{length_stored, part_stored, take_stored}
+use Rattle.writing.proofs.Runs.{copy_more, length_stored, take_stored}
 use Rattle.lister.specs.Mends.{Movable, MendedAnswer}
 
--- a run of words copied down
-pub moved : (o : List ℕ) (to from n : ℕ) → to ≤ from → from + n ≤ length o → copy_within o from (from + n) to ≡ stored o to (take n (drop from o))
-moved o to from n h m =
-    let vs = take n (drop from o) in
-    let e : from + n - from ≡ n = omega arith in
-    let l : length vs ≡ n = simp (length-take, length-drop) (omega arith) in
-    rw e (append_assoc (take to o) vs _ ∙ ap (λ (z : List ℕ). take to o ++ (vs ++ z)) (sym (drop-drop n to o)) ∙ part_stored o vs to n l (omega arith))
+-- a run of stores leaves what is past it
+sets_past : (vs l : List ℕ) (i k : ℕ) → i + length vs ≤ k → get_or (sets l i vs) k 0 ≡ get_or l k 0
+sets_past [] l i k h = refl
+sets_past (v ∷ vs) l i k h = sets_past vs (set l i v) (suc i) k (omega arith) ∙ get_or-set_other l i k v 0 (λ e. omega arith)
+
+past : (o : List ℕ) (to i k : ℕ) (s : List ℕ) → to + i ≤ k → get_or (stored o to (take i s)) k 0 ≡ get_or o k 0
+unfolding stored
+past o to i k s h = sets_past (take i s) o to k (simp length-take (omega arith))
+
+-- one more word: it is read past all that was stored
+pub move_more : (o : List ℕ) (to from i : ℕ) → to ≤ from → from + i < length o
+    → set (stored o to (take i (drop from o))) (to + i) (get_or (stored o to (take i (drop from o))) (from + i) 0) ≡ stored o to (take (i + 1) (drop from o))
+move_more o to from i h l = rw (past o to i (from + i) (drop from o) (omega arith)) (copy_more o o from to i l)
 
 -- the rows moved, and three rows after them
 pub mended : (a : Option Place) (s : Place) (from n m : ℕ) (o o₁ o₂ o₃ o₄ : List ℕ) → Movable from s.rows o

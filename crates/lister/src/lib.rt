@@ -23,7 +23,9 @@ fn move_down(out: &mut [u32], to: usize, from: usize, n: usize)
     requires { (to ≤ from) × (from + n ≤ length out.old) }
     ensures { out.new ≡ stored out.old to (take n (drop from out.old)) }
 {
-    out.copy_within(from..from + n, to);
+    for i in 0..n {
+        out[to + i] = out[from + i];
+    }
 }
 
 // Moves the rows from `from` to s up past the two rows before them, which come after them anew, and ends a Seq of m rows.

@@ -1,2 +1,3 @@
--- Laws of sums over words.
+-- Laws of sums over words and of copies.
 pub mod Sums
+pub mod Overs

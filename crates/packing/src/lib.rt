@@ -1,7 +1,7 @@
 // A table's packed text, measured before the first step, and the last table, copied out.
 #![tactic(auto)]
 
-ghost use Rattle.std.specs.Prelude.{◌≡◌, ℕ, ◌++◌, ◌*◌, ◌^◌, ◌≤◌, ◌<◌, length, take, drop};
+ghost use Rattle.std.specs.Prelude.{◌≡◌, ℕ, ◌*◌, ◌^◌, ◌≤◌, ◌<◌, length, take};
 ghost use Rattle.grammar.specs.Refusals.{full_rules, full_rows};
 ghost use Rattle.grammar.specs.Numbers.{row_width};
 ghost use Rattle.grammar.specs.Basic.{Bytes};
@@ -52,12 +52,14 @@ pub fn text_size(table: &LentTable) -> usize
         + sum_four(table.rows, |kind, _, y| lit_length(kind, y))
 }
 
-// Copies n words or bytes of src over the front of dst.
-fn copy_front<T: Copy>(src: &[T], n: usize, dst: &mut [T])
+// Copies n words of src over the front of dst.
+fn copy_words(src: &[u32], n: usize, dst: &mut [u32])
     requires { (n ≤ length src.now) × (n ≤ length dst.old) }
-    ensures { dst.new ≡ take n src.now ++ drop n dst.old }
+    ensures { dst.new ≡ over (take n src.now) dst.old }
 {
-    dst[..n].copy_from_slice(&src[..n]);
+    for i in 0..n {
+        dst[i] = src[i];
+    }
 }
 
 // Copies a packed table of `count` words of rules, up to p, over the front of three outputs.
@@ -76,7 +78,7 @@ pub fn put_out(
     ensures out_rows_after { out_rows.new ≡ over (take (p.rows * row_width) rows.now) out_rows.old }
     ensures out_text_after { out_text.new ≡ over (take p.text text.now) out_text.old }
 {
-    copy_front(heads, count, out_rules);
-    copy_front(rows, p.rows * ROW_WIDTH, out_rows);
-    copy_front(text, p.text, out_text);
+    copy_words(heads, count, out_rules);
+    copy_words(rows, p.rows * ROW_WIDTH, out_rows);
+    writing::copy_bytes(text, 0, p.text, out_text, 0);
 }

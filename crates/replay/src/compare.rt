@@ -23,8 +23,8 @@ pub struct Place {
 pub fn answer(
     answers: &mut Answers,
     lend: Lend,
-    left: LentTable<'_>,
-    right: LentTable<'_>,
+    left: LentTable,
+    right: LentTable,
     at: Place,
 ) -> io::Result<()> {
     let mut list = [WORD; LIST_AREA];
@@ -44,8 +44,8 @@ pub fn answer(
 // The call, with marks of its own: how many entries it lists.
 fn compared(
     lend: Lend,
-    left: LentTable<'_>,
-    right: LentTable<'_>,
+    left: LentTable,
+    right: LentTable,
     list: &mut [u32],
 ) -> Result<u32, Refused> {
     let mut left_marks = [WORD; RULES_AREA];
@@ -59,6 +59,6 @@ fn compared(
     )
 }
 
-fn literal(left: LentTable<'_>, right: LentTable<'_>, at: Place) -> Option<Literal> {
+fn literal(left: LentTable, right: LentTable, at: Place) -> Option<Literal> {
     comparer::place(&left, &right, at.side, at.rule, at.row)
 }

@@ -9,12 +9,7 @@ use std::io;
 // The list's area, 16 words above full size.
 const LIST_AREA: usize = 272;
 
-pub fn answer(
-    answers: &mut Answers,
-    lend: Lend,
-    table: LentTable<'_>,
-    row: usize,
-) -> io::Result<()> {
+pub fn answer(answers: &mut Answers, lend: Lend, table: LentTable, row: usize) -> io::Result<()> {
     let mut list = [WORD; LIST_AREA];
     let (number, answer, rule, at, met, opened) = match explained(lend, table, row, &mut list) {
         Ok(e) => (0, u32::from(e.answer), e.rule, e.at, e.met, e.opened),
@@ -26,12 +21,7 @@ pub fn answer(
 }
 
 // The call, with marks of its own.
-fn explained(
-    lend: Lend,
-    t: LentTable<'_>,
-    row: usize,
-    list: &mut [u32],
-) -> Result<Explained, Refusal> {
+fn explained(lend: Lend, t: LentTable, row: usize, list: &mut [u32]) -> Result<Explained, Refusal> {
     let mut marks = [WORD; RULES_AREA];
     explainer::explain(
         &t,

@@ -1,4 +1,6 @@
 // Reading cases.
+ghost use Rattle.std.specs.Prelude.{◌≤◌, length, IfSome};
+
 use areas::{ROWS_AREA, RULES_AREA};
 use grammar::LentTable;
 use std::io;
@@ -10,7 +12,7 @@ const TEXT: usize = 65600;
 // What a case that is carried has behind its first four words always fits.
 const CASE_BYTES: usize = 4 * RULES_AREA + 4 * ROWS_AREA + TEXT;
 
-// Standard input. A read that fails ends the cases as the input's end does; `close` gives its error.
+// Standard input. A read that fails ends the cases as the input's end does, and nothing is read after it; `close` gives its error.
 #[derive(Drop)]
 pub struct Input {
     stdin: Stdin,
@@ -27,6 +29,9 @@ impl Input {
 
     // Fills b; not where the input ends before, and not where a read fails.
     fn fill(&mut self, b: &mut [u8]) -> Option<()> {
+        if self.read.is_err() {
+            return None;
+        }
         match self.stdin.read_exact(b) {
             Ok(()) => Some(()),
             Err(e) => {
@@ -51,36 +56,54 @@ impl Input {
         Some(usize::from_le_bytes(b))
     }
 
+    // The next two of these.
+    pub fn pair(&mut self) -> Option<(usize, usize)> {
+        let first = self.long()?;
+        let second = self.long()?;
+        Some((first, second))
+    }
+
     pub fn close(self) -> io::Result<()> {
         self.read
     }
 }
 
+// A case: its table, and its fourth word.
+#[derive(Clone, Copy)]
+pub struct Case<'a> {
+    pub table: LentTable<'a, 'a, 'a>,
+    pub last: u32,
+}
+
 // The areas of one case: the bytes behind its first four words, and the words that they stand for.
 #[derive(Drop)]
-pub struct Case {
+pub struct CaseAreas {
     bytes: [u8; CASE_BYTES],
     rules: [u32; RULES_AREA],
     rows: [u32; ROWS_AREA],
 }
 
-impl Case {
+impl CaseAreas {
     pub fn new() -> Self {
-        Case {
+        CaseAreas {
             bytes: [0; CASE_BYTES],
             rules: [0; RULES_AREA],
             rows: [0; ROWS_AREA],
         }
     }
 
-    // The next case, its table and its fourth word; none, if it is cut off or counts more than is carried.
-    pub fn next(&mut self, input: &mut Input) -> Option<(LentTable<'_>, u32)> {
+    // The next case; none, if it is cut off or counts more than is carried.
+    pub fn next(&mut self, input: &mut Input) -> Option<Case<'_>>
+        ensures rules { IfSome result (λ c. length c.table.rules.now ≤ 1040) }
+        ensures rows { IfSome result (λ c. length c.table.rows.now ≤ 16400) }
+        ensures text { IfSome result (λ c. length c.table.text.now ≤ 65600) }
+    {
         let [rules, rows, text, last] = input.words()?;
         let (rules, rows, text) = (rules as usize, rows as usize, text as usize);
         if rules > RULES_AREA || rows > ROWS_AREA || text > TEXT {
             return None;
         }
-        let Case {
+        let CaseAreas {
             bytes,
             rules: rule_area,
             rows: row_area,
@@ -95,7 +118,7 @@ impl Case {
             rows: &row_area[..rows],
             text: &rest[..text],
         };
-        Some((table, last))
+        Some(Case { table, last })
     }
 }
 

@@ -26,7 +26,7 @@ mod optimize;
 
 use answers::Answers;
 use areas::Lend;
-use input::{Case, Input};
+use input::{Case, CaseAreas, Input};
 use std::io;
 
 // A tool's number is the fourth word by this.
@@ -61,8 +61,8 @@ fn main(rt: HostRuntime) -> io::Result<()> {
 
 // All cases. A proved loop has to end, so it counts to a number that no run uses up.
 fn run(input: &mut Input, answers: &mut Answers) -> io::Result<()> {
-    let mut case = Case::new();
-    let mut more = Case::new();
+    let mut case = CaseAreas::new();
+    let mut more = CaseAreas::new();
     for _ in 0..u64::MAX {
         let Some(put) = turn(input, &mut case, &mut more, answers) else {
             break;
@@ -75,19 +75,25 @@ fn run(input: &mut Input, answers: &mut Answers) -> io::Result<()> {
 // One case, if there is one more. A second table, where it has one, is read into `more`.
 fn turn(
     input: &mut Input,
-    case: &mut Case,
-    more: &mut Case,
+    case: &mut CaseAreas,
+    more: &mut CaseAreas,
     answers: &mut Answers,
 ) -> Option<io::Result<()>> {
-    let (table, last) = case.next(input)?;
+    let Case { table, last } = case.next(input)?;
     match Call::from(last) {
         Call::Optimize(lend) => Some(optimize::answer(answers, lend, table)),
         Call::Compare(lend) => {
-            let (right, side) = more.next(input)?;
-            let rule = input.long()?;
-            let row = input.long()?;
-            let at = compare::Place { side, rule, row };
-            Some(compare::answer(answers, lend, table, right, at))
+            // what is asked is read also where the right table counts too much
+            let right = more.next(input);
+            let asked = input.pair();
+            let right = right?;
+            let (rule, row) = asked?;
+            let at = compare::Place {
+                side: right.last,
+                rule,
+                row,
+            };
+            Some(compare::answer(answers, lend, table, right.table, at))
         }
         Call::Explain(lend) => {
             let row = input.long()?;

@@ -5,9 +5,15 @@ use grammar::{LentTable, ROW_WIDTH, RULE_WIDTH};
 use optimizer::REPORT;
 use std::io;
 
-pub fn answer(answers: &mut Answers, lend: Lend, table: LentTable<'_>) -> io::Result<()> {
+pub fn answer(answers: &mut Answers, lend: Lend, table: LentTable) -> io::Result<()> {
     let mut out = Areas::new();
-    let (number, rules, rows, text, report) = match areas::answer(lend, table, &mut out) {
+    let (number, rules, rows, text, report) = match areas::answer(
+        lend,
+        table,
+        &mut out.rules,
+        &mut out.rows,
+        &mut out.text,
+    ) {
         Ok(a) => {
             let report = a.report;
             (0, a.rules, a.rows, a.text, report)

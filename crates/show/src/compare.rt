@@ -13,7 +13,7 @@ const OTHER_TYPE: u32 = 1;
 
 const OTHER_TREE: u32 = 2;
 
-pub fn changes(rt: &impl Print, left: LentTable<'_>, right: LentTable<'_>) -> io::Result<()> {
+pub fn changes(rt: &impl Print, left: LentTable, right: LentTable) -> io::Result<()> {
     let mut list = [0; FULL_LIST];
     let Ok(n) = compared(left, right, &mut list) else {
         return println!(rt; "  changes: not compared, a RestoreOnErr is no kind of an input");
@@ -29,14 +29,14 @@ pub fn changes(rt: &impl Print, left: LentTable<'_>, right: LentTable<'_>) -> io
 }
 
 // The call, with marks of its own: how many entries it lists.
-fn compared(left: LentTable<'_>, right: LentTable<'_>, list: &mut [u32]) -> Result<u32, Refused> {
+fn compared(left: LentTable, right: LentTable, list: &mut [u32]) -> Result<u32, Refused> {
     let mut left_marks = [0; RULES_AREA];
     let mut right_marks = [0; RULES_AREA];
     comparer::compare(&left, &right, list, &mut left_marks, &mut right_marks)
 }
 
 // An entry. Every rule of these tables is found on both sides.
-fn entry(rt: &impl Print, e: Entry, left: LentTable<'_>, right: LentTable<'_>) -> io::Result<()> {
+fn entry(rt: &impl Print, e: Entry, left: LentTable, right: LentTable) -> io::Result<()> {
     let [sort, left_rule, right_rule, row] = e;
     print!(rt; "  changes: {}", name(left, left_rule))?;
     match sort {
@@ -52,15 +52,15 @@ fn entry(rt: &impl Print, e: Entry, left: LentTable<'_>, right: LentTable<'_>) -
     }
 }
 
-pub fn name(t: LentTable<'_>, rule: u32) -> &str {
+pub fn name<'a>(t: LentTable<'a, 'a, 'a>, rule: u32) -> &'a str {
     Rules::new(t).nth(rule as usize).map_or("", |r| r.name)
 }
 
 // What stands at a row of a rule: a literal's bytes, another row's kind, or nothing, past the rule's last row.
 fn what(
     rt: &impl Print,
-    left: LentTable<'_>,
-    right: LentTable<'_>,
+    left: LentTable,
+    right: LentTable,
     side: Side,
     rule: u32,
     row: u32,
@@ -80,20 +80,20 @@ fn what(
 }
 
 // The bytes of a literal, where one stands there.
-fn literal<'a>(
-    left: LentTable<'a>,
-    right: LentTable<'a>,
+fn literal<'t>(
+    left: LentTable<'_, '_, 't>,
+    right: LentTable<'_, '_, 't>,
     side: Side,
     rule: u32,
     row: u32,
-) -> Option<&'a [u8]> {
+) -> Option<&'t [u8]> {
     let (side, rule, row) = (side as u32, rule as usize, row as usize);
     comparer::place(&left, &right, side, rule, row).map(|_| {
         comparer::shown(&left, &right, side, rule, row)
     })
 }
 
-fn kind(t: LentTable<'_>, rule: u32, row: u32) -> &'static str {
+fn kind(t: LentTable, rule: u32, row: u32) -> &'static str {
     Rules::new(t)
         .nth(rule as usize)
         .and_then(|r| r.rows.get(row as usize))

@@ -20,7 +20,7 @@ const SENTENCES: [&str; 7] = [
 ];
 
 // The loops of a table.
-pub fn loops(rt: &impl Print, t: LentTable<'_>) -> io::Result<()> {
+pub fn loops(rt: &impl Print, t: LentTable) -> io::Result<()> {
     for (rule, r) in (0..).zip(Rules::new(t)) {
         for (row, at) in r.rows.iter().zip(r.first..) {
             let [kind, ..] = *row;
@@ -33,7 +33,7 @@ pub fn loops(rt: &impl Print, t: LentTable<'_>) -> io::Result<()> {
 }
 
 // Row `row` of the table, a loop of the rule; nothing, where the answer is a refusal.
-fn sentence(rt: &impl Print, t: LentTable<'_>, rule: u32, row: usize) -> io::Result<()> {
+fn sentence(rt: &impl Print, t: LentTable, rule: u32, row: usize) -> io::Result<()> {
     let mut list = [0; FULL_LIST];
     let Ok(e) = explained(t, row, &mut list) else {
         return Ok(());
@@ -61,13 +61,13 @@ fn sentence(rt: &impl Print, t: LentTable<'_>, rule: u32, row: usize) -> io::Res
 }
 
 // The call, with marks of its own.
-fn explained(t: LentTable<'_>, row: usize, list: &mut [u32]) -> Result<Explained, Refusal> {
+fn explained(t: LentTable, row: usize, list: &mut [u32]) -> Result<Explained, Refusal> {
     let mut marks = [0; RULES_AREA];
     explainer::explain(&t, row, list, &mut marks)
 }
 
 // A row of the table as a row of its rule.
-fn place(rt: &impl Print, t: LentTable<'_>, rule: u32, row: usize) -> io::Result<()> {
+fn place(rt: &impl Print, t: LentTable, rule: u32, row: usize) -> io::Result<()> {
     match Rules::new(t).nth(rule as usize) {
         Some(r) => print!(rt; "row {} of {}", row.saturating_sub(r.first), r.name),
         None => Ok(()),
@@ -88,7 +88,7 @@ fn other(rt: &impl Print, kind: u32) -> io::Result<()> {
 }
 
 // A rule that is already being read, and those that are.
-fn met_again(rt: &impl Print, t: LentTable<'_>, met: u32, opened: &[u32]) -> io::Result<()> {
+fn met_again(rt: &impl Print, t: LentTable, met: u32, opened: &[u32]) -> io::Result<()> {
     let name = compare::name(t, met);
     print!(rt; ", which names {name}, and that is already being read (on the way: ")?;
     for (i, rule) in opened.iter().enumerate() {

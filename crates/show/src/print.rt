@@ -40,12 +40,18 @@ const WHOLE: usize = 16;
 const ENDS: usize = 4;
 
 // A table before and after the call.
-pub fn both(rt: &impl Print, before: LentTable<'_>) -> io::Result<()> {
+pub fn both(rt: &impl Print, before: LentTable) -> io::Result<()> {
     println!(rt; "  before")?;
     table(rt, before)?;
     explain::loops(rt, before)?;
     let mut out = Areas::new();
-    match areas::answer(Lend::Whole, before, &mut out) {
+    match areas::answer(
+        Lend::Whole,
+        before,
+        &mut out.rules,
+        &mut out.rows,
+        &mut out.text,
+    ) {
         Ok(a) => {
             let after = out.table(a);
             println!(rt; "  after")?;
@@ -71,7 +77,7 @@ fn reason(r: Refusal) -> &'static str {
     }
 }
 
-fn table(rt: &impl Print, t: LentTable<'_>) -> io::Result<()> {
+fn table(rt: &impl Print, t: LentTable) -> io::Result<()> {
     for rule in Rules::new(t) {
         let ty = TYPES.get(rule.ty as usize).copied().unwrap_or("");
         println!(rt; "    {}, {ty}", rule.name)?;

@@ -26,7 +26,7 @@ pub struct Rules<'a> {
 }
 
 impl<'a> Rules<'a> {
-    pub fn new(t: LentTable<'a>) -> Self {
+    pub fn new(t: LentTable<'a, 'a, 'a>) -> Self {
         Rules {
             rules: t.rules.as_chunks().0,
             first: 0,
@@ -36,7 +36,7 @@ impl<'a> Rules<'a> {
     }
 }
 
-pub fn rows(t: LentTable<'_>) -> &[Row] {
+pub fn rows<'w>(t: LentTable<'_, 'w, '_>) -> &'w [Row] {
     t.rows.as_chunks().0
 }
 

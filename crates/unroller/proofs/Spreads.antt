@@ -41,16 +41,16 @@ pub record Pending (p q at : Place) (es : List E) (e : E) (o t : List ℕ) : Typ
   pub areas : Areas o t
 
 -- behind the first item
-ahead_first : (i : Item) {p q a : Place} {e : E} {o o₁ t : List ℕ} → Source p q e o t → Written a p (item_of i e) o o₁ t t → Ahead p q a e o₁ t
+pub ahead_first : (i : Item) {p q a : Place} {e : E} {o o₁ t : List ℕ} → Source p q e o t → Written a p (item_of i e) o o₁ t t → Ahead p q a e o₁ t
 ahead_first i {p} {q} {a} {e} s w =
     let k : q.text ≡ a.text = omega (arith, s.text, w.text, ap length (item_text i e)) in
     record { source = item_source i s.rows k (written_source w); behind = omega (arith, s.rows, w.rows, item_size i e); beyond = omega arith }
 
-ahead_next : {p q at b : Place} {e : E} (es : List E) {o o' t t' : List ℕ} → Ahead p q at e o t → Laid b at es o o' t t' → Ahead p q b e o' t'
+pub ahead_next : {p q at b : Place} {e : E} (es : List E) {o o' t t' : List ℕ} → Ahead p q at e o t → Laid b at es o o' t t' → Ahead p q b e o' t'
 ahead_next es h w = record { source = source_put h.source h.behind h.beyond w; behind = omega (arith, h.behind, w.rows); beyond = omega (arith, h.beyond, w.text) }
 
 module _ {p q : Place} {n : Items} {o t : List ℕ} (c : Layable p q n o t) (i : Item) (es : List E) (f : items_of n c.tree ≡ item_of i c.tree ∷ es) where
-  pending_first : {a : Place} {o₁ : List ℕ} → Written a p (item_of i c.tree) o o₁ t t → Pending p q a es c.tree o₁ t
+  pub pending_first : {a : Place} {o₁ : List ℕ} → Written a p (item_of i c.tree) o o₁ t t → Pending p q a es c.tree o₁ t
   pending_first w = record {
     ahead = ahead_first i c.source w;
     fits = record {
@@ -61,7 +61,7 @@ module _ {p q : Place} {n : Items} {o t : List ℕ} (c : Layable p q n o t) (i :
   }
 
 module _ {p q at : Place} (es fs : List E) {e : E} {o t : List ℕ} (h : Pending p q at (es ++ fs) e o t) where
-  pending_next : {b : Place} {o' t' : List ℕ} → Laid b at es o o' t t' → Pending p q b fs e o' t'
+  pub pending_next : {b : Place} {o' t' : List ℕ} → Laid b at es o o' t t' → Pending p q b fs e o' t'
   pending_next w = record {
     ahead = ahead_next es h.ahead w;
     fits = record {
@@ -71,7 +71,7 @@ module _ {p q at : Place} (es fs : List E) {e : E} {o t : List ℕ} (h : Pending
     areas = record { words = omega (arith, h.areas.words, put_out w); bytes = omega (arith, h.areas.bytes, put_lits w) };
   }
 
-  pending_repeat : (k : ℕ) (i : Item) → es ≡ replicate k (item_of i e) → Repeatable p q at k i o t
+  pub pending_repeat : (k : ℕ) (i : Item) → es ≡ replicate k (item_of i e) → Repeatable p q at k i o t
   pending_repeat k i r =
       let x = item_of i e in
       let b : k * length (text_of x) ≡ k * length (text_of e) = ap (λ (u : List ℕ). k * length u) (item_text i e) in

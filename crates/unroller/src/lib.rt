@@ -113,8 +113,9 @@ fn copy_on(lits: &mut [u8], x: usize, n: usize, at: usize)
     requires { (x + n ≤ at) × (at + n ≤ length lits.old) }
     ensures { lits.new ≡ stored lits.old at (bytes_at lits.old (x, n)) }
 {
-    let (front, back) = lits.split_at_mut(at);
-    writing::copy_bytes(front, x, n, back, 0);
+    for i in 0..n {
+        lits[at + i] = lits[x + i];
+    }
 }
 
 // Copies row i to row j; an offset moves by d.
