@@ -56,10 +56,11 @@ impl Input {
         Some(usize::from_le_bytes(b))
     }
 
-    // The next two of these.
+    // The next two of these, by one read.
     pub fn pair(&mut self) -> Option<(usize, usize)> {
-        let first = self.long()?;
-        let second = self.long()?;
+        let mut b = [[0; 8]; 2];
+        self.fill(b.as_flattened_mut())?;
+        let [first, second] = b.map(usize::from_le_bytes);
         Some((first, second))
     }
 
