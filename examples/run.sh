@@ -1,5 +1,6 @@
 #!/usr/bin/env bash
 # Compiles each example in C and Rust with the static library, runs it and compares what it prints with its .txt:  run.sh [LIBRARY.a]
+# Before that, where nm is at hand: the library needs no name from outside, so that a host may link it without a C library.
 # Without LIBRARY.a it takes the repository's own, built over what is proved.
 set -euo pipefail
 here=$(cd "$(dirname "$0")" && pwd)
@@ -10,6 +11,13 @@ fi
 library=${1:-$here/../crates/arvedun/out/libarvedun.a}
 tmp=$(mktemp -d); trap 'rm -rf "$tmp"' EXIT
 cp "$library" "$tmp/libarvedun.a"
+if command -v nm >/dev/null; then
+    needs=$(nm -u "$tmp/libarvedun.a" | awk '$1 == "U" { print $2 }')
+    [ -z "$needs" ] || { echo "libarvedun.a: needs from outside: $needs"; exit 1; }
+    echo "libarvedun.a: needs no name from outside"
+else
+    echo "libarvedun.a: what it needs from outside was not looked at, there is no nm"
+fi
 same() { "$tmp/program" >"$tmp/said"; diff "$here/$1.txt" "$tmp/said" || { echo "$2: not as expected"; exit 1; }; echo "$2: as expected"; }
 for name in call compare explain; do
     if command -v gcc >/dev/null; then

@@ -30,7 +30,9 @@ pub struct Areas {
 
 impl Areas {
     pub fn new() -> Self
-        ensures { (1040 ≡ length result.rules) × (16400 ≡ length result.rows) × (65552 ≡ length result.text) }
+        ensures rules { 1040 ≡ length result.rules }
+        ensures rows { 16400 ≡ length result.rows }
+        ensures text { 65552 ≡ length result.text }
     {
         Areas {
             rules: [WORD; RULES_AREA],
